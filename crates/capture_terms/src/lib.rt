@@ -4,8 +4,10 @@
 
 mod capture;
 mod datagram;
+mod laws;
 mod plan;
 
 pub use capture::{Capture, Endianness, Frame};
 pub use datagram::{Class, Header, Kind, Piece};
+pub use laws::{frames_lie_within, one_answer};
 pub use plan::{Group, Plan, Task};
