@@ -1,0 +1,4 @@
+pub mod Words
+pub mod Inspection
+pub mod Verdict
+pub mod Run
