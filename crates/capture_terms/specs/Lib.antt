@@ -1,3 +1,5 @@
 pub mod Capture
 pub mod Classes
+pub mod Datagram
+pub mod Kept
 pub mod Numbers
