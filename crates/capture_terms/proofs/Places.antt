@@ -102,8 +102,8 @@ sum_below_full f one (suc n) full p before =
     let most : sum_below f n ≤ n = sum_below_most f one n in
     let here : f n ≤ 1 = one n in
     elim (split p n before) [
-    | inl earlier ↦ sum_below_full f one n (omega arith) p earlier
-    | inr same ↦ let top : f n ≡ 1 = omega arith in ap f same ∙ top
+      | inl earlier ↦ sum_below_full f one n (omega arith) p earlier
+      | inr same ↦ let top : f n ≡ 1 = omega arith in ap f same ∙ top
     ]
   where
     split : (p n : ℕ) → p < suc n → (p < n) ⊎ (p ≡ n)
@@ -120,6 +120,7 @@ packed_most end tasks packed =
 
 pub packed_exact : (end : ℕ) (tasks : List Task) → ArePacked end tasks → (sum_by (λ (t : Task). t.length) tasks ≡ end) ↔ ((place : ℕ) → place < end → count_by (holds place) tasks ≡ 1)
 packed_exact end tasks packed =
-    let same : sum_below (λ p. count_by (holds p) tasks) end ≡ sum_by (λ (t : Task). t.length) tasks = counted tasks end packed.within in
-    ( (λ full. sum_below_full (λ p. count_by (holds p) tasks) (λ p. at_most_one tasks p packed.apart) end (same ∙ full))
-    , (λ ones. sym same ∙ sum_below_ones (λ p. count_by (holds p) tasks) end ones) )
+    let same : sum_below (λ p. count_by (holds p) tasks) end ≡ sum_by (λ (t : Task). t.length) tasks = counted tasks end packed.within in (
+      (λ full. sum_below_full (λ p. count_by (holds p) tasks) (λ p. at_most_one tasks p packed.apart) end (same ∙ full)),
+      (λ ones. sym same ∙ sum_below_ones (λ p. count_by (holds p) tasks) end ones),
+    )

@@ -14,7 +14,8 @@ use Rattle.capture_terms.specs.declared.datagram.Class.TheVariants as class
 -- section 3.2).
 
 abbrev pub is_same_header : Header → Header → Bool
-is_same_header g h = (g.source == h.source) && (g.destination == h.destination) && (g.protocol == h.protocol)
+is_same_header g h =
+    (g.source == h.source) && ((g.destination == h.destination) && (g.protocol == h.protocol))
 
 abbrev pub is_same_group : Group → Group → Bool
 is_same_group g h = is_same_header g.header h.header && (g.id == h.id)

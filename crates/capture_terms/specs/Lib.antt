@@ -3,3 +3,4 @@ pub mod Classes
 pub mod Datagram
 pub mod Kept
 pub mod Numbers
+pub mod Plan

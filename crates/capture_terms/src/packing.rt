@@ -7,5 +7,4 @@ ghost use Rattle.capture_terms.specs.Datagram.{ArePacked, holds};
 pub fn packing_law()
     ensures most { (end : ℕ) (tasks : List Task) → ArePacked end tasks → sum_by (λ t. t.length) tasks ≤ end }
     ensures exact { (end : ℕ) (tasks : List Task) → ArePacked end tasks → ((sum_by (λ t. t.length) tasks ≡ end) ↔ ((place : ℕ) → place < end → count_by (holds place) tasks ≡ 1)) }
-{
-}
+{}

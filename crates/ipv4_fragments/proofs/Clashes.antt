@@ -45,7 +45,7 @@ any_map p q (x ∷ xs) at found = by_case (any_map p q xs at) (p x) refl
   where
     by_case : (list_any p xs ≡ true → list_any q xs ≡ true) → (b : Bool) → p x ≡ b → (q x || list_any q xs) ≡ true
     by_case rest true here = rw (at x here)
-    by_case rest false here = 
+    by_case rest false here =
         let tail : list_any p xs ≡ true = (rw here at found) in
         let more : list_any q xs ≡ true = rest tail in
         rw more (or_true (q x))
@@ -94,7 +94,7 @@ module _ (ranges : Ranges) (kept : List Piece) (agrees : Agrees ranges kept) (st
                   at_most p there most = elim (same_or_less p.start s most) [
                     | inl same ↦ let both : Some (end_of p) ≡ Some e = sym there ∙ ap (known ranges) same ∙ here in let equal : end_of p ≡ e = cc in omega arith
                     | inr less ↦ let below : end_of p ≤ s = agrees.apart p.start (end_of p) s e there here less in let solid : s < e = agrees.solid s e here in omega arith
-                    ]
+                  ]
 
 -- the four reasons to clash, by what is known of the ranges
 pub clash_known : (ranges : Ranges) (kept : List Piece) → Agrees ranges kept → (f : Piece) → list_any (cannot_both_stand f) kept ≡ ((list_any (overlap f) kept || (f.last && is_some ranges.last)) || ((f.last && nat_lt (end_of f) ranges.greatest) || option_map_or (λ l. nat_lt l (end_of f)) ranges.last false))
@@ -129,7 +129,7 @@ module _ (ranges : Ranges) (kept : List Piece) (agrees : Agrees ranges kept) (f 
     pub by_last_end : (l : ℕ) → ranges.last ≡ Some l → f.last ≡ false → nat_lt l (end_of f) ≡ list_any (cannot_both_stand f) kept
     by_last_end l some other = sym (rest ∙ (rw (some, other)))
 
-any_push : {X : Type 0} (p : X → Bool) (xs : List X) (x : X) → list_any p (xs ++ x ∷ []) ≡ (list_any p xs || p x)
+pub any_push : {X : Type 0} (p : X → Bool) (xs : List X) (x : X) → list_any p (xs ++ x ∷ []) ≡ (list_any p xs || p x)
 any_push p xs x = list_any-append p xs (x ∷ []) ∙ ap (λ (b : Bool). list_any p xs || b) (sym (or_false (p x)))
 
 or_false_left : (a b : Bool) → (a || b) ≡ false → a ≡ false
@@ -145,9 +145,8 @@ any_from_right false b here = here
 
 -- ranges with one more
 module _ (old new : Ranges) (kept : List Piece) (agrees : Agrees old kept) (f : Piece) (places : 0 < f.length)
-  (apart : list_any (overlap f) kept ≡ false)
-  (same : known new f.start ≡ Some (end_of f)) (others : (q : ℕ) → (q ≡ f.start → ⊥) → known new q ≡ known old q) where
-
+    (apart : list_any (overlap f) kept ≡ false)
+    (same : known new f.start ≡ Some (end_of f)) (others : (q : ℕ) → (q ≡ f.start → ⊥) → known new q ≡ known old q) where
   -- a range that is known doesn't meet the fragment
   away : (s e : ℕ) → known old s ≡ Some e → nat_lt (max f.start s) (min (end_of f) e) ≡ false
   away s e here = by_case (nat_lt (max f.start s) (min (end_of f) e)) refl
@@ -169,13 +168,13 @@ module _ (old new : Ranges) (kept : List Piece) (agrees : Agrees old kept) (f : 
   known_now s e here = elim (cases_eq s f.start) [
     | inl is ↦ let both : Some e ≡ Some (end_of f) = sym here ∙ ap (known new) is ∙ same in let ends : e ≡ end_of f = cc in inl (is, ends)
     | inr other ↦ inr (other, sym (others s other) ∙ here)
-    ]
+  ]
 
   listed_more : (s e : ℕ) → known new s ≡ Some e → list_any (λ (p : Piece). (p.start == s) && (end_of p == e)) (kept ++ f ∷ []) ≡ true
   listed_more s e here = any_push (λ (p : Piece). (p.start == s) && (end_of p == e)) kept f ∙ elim (known_now s e here) [
     | inl is ↦ any_from_right (list_any (λ (p : Piece). (p.start == s) && (end_of p == e)) kept) ((f.start == s) && (end_of f == e)) (itself is.0 is.1)
     | inr was ↦ any_from_left (list_any (λ (p : Piece). (p.start == s) && (end_of p == e)) kept) ((f.start == s) && (end_of f == e)) (agrees.listed s e was.1)
-    ]
+  ]
     where
       itself : s ≡ f.start → e ≡ end_of f → ((f.start == s) && (end_of f == e)) ≡ true
       itself is ends = grind (arith, nat_tests)
@@ -184,25 +183,26 @@ module _ (old new : Ranges) (kept : List Piece) (agrees : Agrees old kept) (f : 
   solid_more s e here = elim (known_now s e here) [
     | inl is ↦ omega (arith, is.0, is.1)
     | inr was ↦ agrees.solid s e was.1
-    ]
+  ]
 
   apart_more : (s e t u : ℕ) → known new s ≡ Some e → known new t ≡ Some u → s < t → e ≤ t
   apart_more s e t u here there before = elim (known_now s e here) [
     | inl is ↦ elim (known_now t u there) [
       | inl it ↦ absurd (omega (arith, is.0, it.0))
       | inr was ↦ from_here is.0 is.1 was.1
-      ]
+    ]
     | inr had ↦ elim (known_now t u there) [
       | inl it ↦ from_there it.0 had.1
       | inr was ↦ agrees.apart s e t u had.1 was.1 before
-      ]
     ]
+  ]
     where
       from_here : s ≡ f.start → e ≡ end_of f → known old t ≡ Some u → e ≤ t
       from_here is ends was =
           let apart_there : nat_lt (max f.start t) (min (end_of f) u) ≡ false = away t u was in
           let solid : t < u = agrees.solid t u was in
           grind (arith, nat_tests)
+
       from_there : t ≡ f.start → known old s ≡ Some e → e ≤ t
       from_there it had =
           let apart_there : nat_lt (max f.start s) (min (end_of f) e) ≡ false = away s e had in

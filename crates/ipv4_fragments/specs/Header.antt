@@ -17,8 +17,13 @@ pub record IsInside (end : ℕ) (piece : Piece) : Type 0 where
   pub there : piece.from + piece.length ≤ end
   pub short : end_of piece ≤ 65535
 
--- a fragment has data
+-- the data of a frame lies before an end in the file
 abbrev pub IsSound : ℕ → Kind → Type 0
 IsSound end (Whole piece) = IsInside end piece
-IsSound end (Fragment piece) = IsInside end piece × (0 < piece.length)
+IsSound end (Fragment piece) = IsInside end piece
 IsSound end _ = Unit {0}
+
+-- a fragment has data, and ends within 65,535 bytes
+abbrev pub HasPlaces : Kind → Type 0
+HasPlaces (Fragment piece) = (0 < piece.length) × (end_of piece ≤ 65535)
+HasPlaces _ = Unit {0}

@@ -4,7 +4,7 @@ ghost use Rattle.capture_terms.specs.Capture.{frame_bytes, IsAcceptedLink, IsWit
 ghost use Rattle.capture_terms.specs.Classes as classes;
 ghost use Rattle.capture_terms.specs.Numbers.{number16, number32};
 ghost use Rattle.capture_terms.specs.declared.capture.Endianness.TheVariants.{Big};
-ghost use Rattle.ipv4_fragments.specs.Header.{HasHeader, IsSound};
+ghost use Rattle.ipv4_fragments.specs.Header.{HasHeader, HasPlaces, IsSound};
 
 use capture_terms::{Frame, Header, Kind, Piece};
 
@@ -176,6 +176,7 @@ fn datagram_kind(at: u64, datagram: &[u8]) -> Kind
     requires place { at < 2 ^ 63 }
     ensures kind { result ≡ classes.datagram_kind at datagram.now }
     ensures sound { IsSound (at + length datagram.now) result }
+    ensures places { HasPlaces result }
 {
     if has_bad_header(datagram) || has_bad_data(datagram) {
         Kind::Bad
@@ -194,6 +195,7 @@ pub fn kind_of(link: u16, bytes: &[u8], frame: &Frame) -> Kind
     requires { IsWithin bytes.now frame.now }
     ensures kind { result ≡ classes.kind_of link bytes.now frame.now }
     ensures sound { IsSound (length bytes.now) result }
+    ensures places { HasPlaces result }
 {
     let at = frame.at as usize;
     let taken = &bytes[at..at + frame.length as usize];
