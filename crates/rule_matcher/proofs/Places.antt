@@ -1,5 +1,5 @@
 -- The first place that a search gives is the least at which the pattern stands.
-use Rattle.std.proofs.Common.{◌≡◌, ℕ, ◌+◌, ◌<◌, ◌≤◌, List, length, get_or, take, drop, Option, Some, None, refl, sym, ◌∙◌, ap, arith, length-take, length-drop, get_or-take, get_or-drop}
+use Rattle.std.proofs.Common.{◌≡◌, ℕ, ◌<◌, List, length, get_or, take, drop, Option, Some, None, refl, sym, ◌∙◌, ap, arith, length-take, length-drop, get_or-take, get_or-drop}
 use Rattle.std.proofs.lemmas.List.{ext_get_or}
 use Rattle.memchr.specs.Find.{OccursAt, FindsNeedle}
 use Rattle.rule_terms.specs.Rule.{Pattern}

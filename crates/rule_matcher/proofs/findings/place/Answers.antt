@@ -1,4 +1,4 @@
-use Rattle.std.proofs.Common.{◌≡◌, List, ℕ, sym, ◌∙◌, ap, subst}
+use Rattle.std.proofs.Common.{◌≡◌, List, ℕ, ◌∙◌, ap, subst}
 use Rattle.memchr.specs.Find.{FindsNeedle}
 use Rattle.rule_terms.specs.Rule.{Pattern}
 use Rattle.rule_terms.specs.Match.{place_of}
