@@ -1,5 +1,5 @@
 -- No two answers are right about one file.
-use Rattle.std.proofs.Common.{◌≡◌, ℕ, ◌<◌, ◌≤◌, ◌⊎◌, inl, inr, Bool, List, length, refl, sym, ◌∙◌, ap, subst, arith}
+use Rattle.std.proofs.Common.{◌≡◌, ℕ, ◌≤◌, ◌⊎◌, inl, inr, Bool, List, length, refl, sym, ◌∙◌, ap, subst, arith}
 use Rattle.capture_terms.specs.Numbers.{number32}
 use Rattle.capture_terms.specs.Capture.{HasMagic, IsHeader, IsAcceptedLink, link_of, HasFrames, IsTail, Contents, Says, HasShortHeader, HasOtherMagic, HasOtherVersion, HasOtherLink, HasLongRecord, HasTooManyFrames, Answer, captured, bad_header, other_version, other_link, long_record, too_many_frames, IsAnswer}
 use Rattle.capture_terms.specs.declared.capture.Endianness.{Endianness}

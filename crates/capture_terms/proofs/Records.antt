@@ -15,6 +15,7 @@ tail_has_none order bytes at torn tail frame here = by_end tail.cut
   where
     size : frame.length ≡ captured_length order bytes at
     size = ap (λ (f : Frame). f.length) here.fields
+
     by_end : (torn < 16) ⊎ IsCutRecord order bytes at torn → ⊥
     by_end (inl short) = omega (arith, tail.left, here.header)
     by_end (inr cut) = omega (arith, size, tail.left, cut.cut, here.whole)

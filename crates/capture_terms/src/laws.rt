@@ -13,3 +13,9 @@ pub fn one_answer()
 pub fn frames_lie_within()
     ensures { (bytes : List ℕ) (contents : Contents) → Says bytes contents → All (IsWithin bytes) contents.frames }
 {}
+
+/// Each file has a right answer: it is a capture, or there is a reason to refuse it.
+#[tactic(auto, using(crate::proofs::Exists::right_answer))]
+pub fn some_answer()
+    ensures { (bytes : List ℕ) → (answer : Answer) × IsAnswer bytes answer }
+{}

@@ -9,5 +9,5 @@ mod plan;
 
 pub use capture::{Capture, Endianness, Frame};
 pub use datagram::{Class, Header, Kind, Piece};
-pub use laws::{frames_lie_within, one_answer};
+pub use laws::{frames_lie_within, one_answer, some_answer};
 pub use plan::{Group, Plan, Task};
