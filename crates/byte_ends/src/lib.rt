@@ -8,6 +8,8 @@
 mod ends;
 mod memory;
 mod real;
+#[cfg(test)]
+mod tests;
 mod whole;
 
 pub use ends::{Failed, Files, Sink};

@@ -108,3 +108,68 @@ impl<W: Write + Drop> Sink for RealSink<W> {
         }
     }
 }
+
+#[cfg(test)]
+mod tests {
+    use super::*;
+    use std::test::Fail;
+
+    #[test]
+    fn files_of_the_machine_are_read_by_place(rt: HostRuntime) -> Result<(), Fail> {
+        fs::write(&rt, "one", "abcdef")?;
+        fs::write(&rt, "two", "xyz")?;
+        let mut files = RealFiles::new(rt.alloc(), &rt);
+        let mut piece = [0u8; 4];
+        for (name, at, count, bytes) in [
+            ("one", 0, 4, b"abcd"),
+            ("one", 4, 2, b"efcd"),
+            ("two", 1, 2, b"yzcd"),
+            ("one", 6, 0, b"yzcd"),
+            ("one", 1, 4, b"bcde"),
+        ] {
+            assert_eq!(rt;
+                files.read(name, at, &mut piece),
+                Ok(count),
+                "{name} at {at}"
+            );
+            assert_eq!(rt; &piece, bytes, "{name} at {at}");
+        }
+        assert_eq!(rt; files.faults, 0);
+        assert_eq!(rt; files.read("three", 0, &mut piece), Err(Failed));
+        assert_eq!(rt; files.read("one", 0, &mut piece), Ok(4));
+        assert_eq!(rt; files.faults, 1);
+        Ok(())
+    }
+
+    // A stream that is full.
+    #[derive(Drop)]
+    struct Full;
+
+    impl Write for Full {
+        fn write(&mut self, _piece: &[u8]) -> io::Result<usize> {
+            Ok(0)
+        }
+
+        fn flush(&mut self) -> io::Result<()> {
+            Ok(())
+        }
+    }
+
+    #[test]
+    fn streams_of_the_machine_count_their_faults(rt: HostRuntime) -> Result<(), Fail> {
+        let mut sink = RealSink::new(fs::create(&rt, "stream")?);
+        assert_eq!(rt; sink.write(b"abc"), Ok(3));
+        assert_eq!(rt; sink.write(b""), Ok(0));
+        assert_eq!(rt; sink.write(b"de"), Ok(2));
+        assert_eq!(rt; sink.faults, 0);
+        assert_eq!(rt; fs::read(&rt, "stream")?.as_slice(), b"abcde".as_slice());
+        let mut full = RealSink::new(Full);
+        assert_eq!(rt; full.write(b"abc"), Err(Failed));
+        assert_eq!(rt; full.write(b""), Ok(0));
+        assert_eq!(rt; full.faults, 1);
+        full.faults = u64::MAX;
+        assert_eq!(rt; full.write(b"abc"), Err(Failed));
+        assert_eq!(rt; full.faults, u64::MAX);
+        Ok(())
+    }
+}
