@@ -1,3 +1,5 @@
 pub mod Verdicts
 pub mod OneVerdict
 pub mod Ran
+pub mod FindingNumbers
+pub mod MemberSteps

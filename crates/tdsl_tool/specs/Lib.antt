@@ -1,4 +1,5 @@
 pub mod Words
 pub mod Inspection
+pub mod Members
 pub mod Verdict
 pub mod Run

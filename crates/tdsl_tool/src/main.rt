@@ -1,11 +1,39 @@
-//! Inspects captures of packets.
+//! Inspects captures of packets: `inspect RULES CAPTURE` writes a report of what the rules find.
 #![tactic(auto)]
 
 mod ending;
+mod findings;
 mod inspection;
 mod laws;
+mod members;
 mod run;
 mod words;
 
-fn main() {
+use byte_ends::{RealFiles, RealSink};
+use run::run_with;
+use std::alloc::Global;
+use std::process::ExitCode;
+use std::rt::Env;
+use std::{env, io};
+
+// The words behind the program's own name.
+fn words_of<R: Env + AllocGlobal>(rt: &R, alloc: Global) -> io::Result<Vec<String>> {
+    let mut words = Vec::new(alloc);
+    for word in env::args(rt)?.skip(1) {
+        words.push(word)?;
+    }
+    Ok(words)
+}
+
+fn main(rt: HostRuntime) -> ExitCode {
+    let alloc = rt.alloc();
+    let words = match words_of(&rt, alloc) {
+        Ok(words) => words,
+        // Words that can't be had, as those that are no text, are none that the program knows.
+        Err(_) => Vec::new(alloc),
+    };
+    let mut files = RealFiles::new(alloc, &rt);
+    let mut out = RealSink::new(rt.stdout());
+    let mut faults = RealSink::new(rt.stderr());
+    ExitCode::from(run_with(&rt, alloc, &words, &mut files, &mut out, &mut faults))
 }

@@ -1,0 +1,10 @@
+-- The rule of a finding, from its number.
+use Rattle.std.proofs.Common.{◌≡◌, ℕ, ◌+◌, ◌*◌, ◌/◌, ◌%◌, ◌^◌, ◌<◌, ◌≤◌, List, ◌++◌, length, subst, sym, arith}
+use Rattle.std.specs.Prelude.{All, map}
+use Rattle.std.proofs.lemmas.List.Elements.{All-append, All-map, All-same}
+use Rattle.report.specs.Report.{rule_of}
+use Rattle.tdsl_tool.specs.Inspection.{finding_number}
+
+-- it is that of the finding, of so many rules
+pub rule_there : (count frame rule place : ℕ) → rule < count → place ≤ 65535 → rule_of (finding_number frame (rule, place)) < count
+rule_there count frame rule place there short = omega arith
