@@ -1,6 +1,9 @@
 ghost use Rattle.std.specs.Prelude.{◌≡◌, ◌↔◌, ℕ, ◌<◌, ◌≤◌, List, count_by, sum_by};
 ghost use Rattle.capture_terms.specs.declared.plan.Task.{Task};
-ghost use Rattle.capture_terms.specs.Datagram.{ArePacked, holds};
+ghost use Rattle.capture_terms.specs.Datagram.{ArePacked, holds, IsDatagramAt, IsSound};
+ghost use Rattle.capture_terms.specs.Plan.{IsClassifiable, IsPlan};
+ghost use Rattle.capture_terms.specs.declared.capture.Capture.{Capture};
+ghost use Rattle.capture_terms.specs.declared.plan.Plan.{Plan};
 
 /// Ranges that share no place and lie below an end: their lengths sum to at most that end, and to
 /// the end exactly where each place below it is in one of them, and then in one alone.
