@@ -44,7 +44,7 @@ pub IsMembers-more : (tasks : List Task) (upto group : ℕ) (task : Task) (list 
 IsMembers-more tasks upto group task list new there is member numbers added are = record {
   tasks_are = added ∙ ap (λ (l : List Task). l ++ task ∷ []) are.tasks_are
       ∙ sym (members_more tasks upto group task there is ∙ ap (λ (l : List Task). members (take upto tasks) group ++ l) one);
-  each = subst (All Is) (sym numbers) (All-append Is list.numbers.items (upto ∷ []) are.each (here, tt));
+  each = subst (All Is) (sym numbers) (All-append Is list.numbers.items (upto ∷ []) are.each (λ k d below. let first : 0 ≡ k = omega arith in subst (λ (n : ℕ). Is (get_or (upto ∷ []) n d)) first here));
   all = all;
 }
   where
@@ -74,7 +74,7 @@ AreMembers-none tasks count lists long empty = record {
     let none = All-get_or IsEmpty lists group d there empty in
     record {
       tasks_are = none.1;
-      each = rw none.0 tt;
+      each = rw none.0 (λ k d before. absurd (omega arith));
       all = λ number task before got member. absurd (omega arith);
     };
 }
@@ -89,10 +89,12 @@ AreMembers-skip tasks upto count lists task there is none are = record {
 }
 
 -- an element that is there, whatever stands for one that is not
-any_default : (xs : List Members) (i : ℕ) (d e : Members) → i < length xs → get_or xs i d ≡ get_or xs i e
-any_default xs i d e inside =
+pub any_default : {X : Type 0} (xs ys : List X) (i : ℕ) (d e : X) → xs ≡ ys → i < length xs → get_or xs i d ≡ get_or ys i e
+any_default xs ys i d e same inside =
     let one = slice_get-get_or xs i d inside in
-    let other = slice_get-get_or xs i e inside in
+    let there : i < length ys = omega (arith, ap length same) in
+    let other = slice_get-get_or ys i e there in
+    let equal = ap (λ l. slice_get l i) same in
     cc
 
 -- what two facts at an `Ok` give
@@ -111,7 +113,7 @@ AreMembers-more tasks upto count lists new task own old list there is has inside
     at group d below =
         elim (eqb_tells own group) [
           inl same ↦
-            let before : get_or lists own d ≡ old = any_default lists own d old inside ∙ sym found in
+            let before : get_or lists own d ≡ old = any_default lists lists own d old refl inside ∙ sym found in
             let member : is_member group task ≡ true = rw has same.0 in
             let here = get_or-set_same lists own list d inside in
             let more = IsMembers-more tasks upto group task (get_or lists group d) list there is member

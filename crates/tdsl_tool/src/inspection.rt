@@ -7,7 +7,10 @@ ghost use Rattle.rule_terms.specs.Rule.{Rule};
 ghost use Rattle.tdsl_tool.specs.Run.{StopsUnder};
 
 use crate::ending::Ending;
+use crate::findings::{FindingsEnd, find_all};
+use ipv4_fragments::classify;
 use pcap_frames::{CaptureEnd, frames};
+use report::report_text;
 use rule_matcher::Rules;
 use std::alloc::Global;
 
@@ -36,6 +39,16 @@ pub fn report_under(alloc: Global, rules: &Rules, bytes: &[u8]) -> Result<Vec<u8
         Ok(capture) => capture,
         Err(end) => return Err(refused(end)),
     };
-    let _ = capture;
-    Err(Ending::Memory)
+    let Ok(plan) = classify(alloc, &capture, bytes) else {
+        return Err(Ending::Memory);
+    };
+    let found = match find_all(alloc, &plan, bytes, rules) {
+        Ok(found) => found,
+        Err(FindingsEnd::TooMany) => return Err(Ending::TooManyFindings),
+        Err(FindingsEnd::Memory) => return Err(Ending::Memory),
+    };
+    match report_text(alloc, &capture, &plan, rules, found.incomplete, &found.numbers) {
+        Ok(text) => Ok(text),
+        Err(_) => Err(Ending::Memory),
+    }
 }

@@ -1,8 +1,10 @@
 // The tasks of a plan by their groups.
-ghost use Rattle.std.specs.Prelude.{◌≡◌, ℕ, ◌+◌, ◌^◌, ◌<◌, ◌≤◌, ◌++◌, List, [], ◌∷◌, length, All, IfOk, OnOk, slice_index_or, slice_set};
+ghost use Rattle.std.specs.Prelude.{◌≡◌, ℕ, ◌+◌, ◌^◌, ◌<◌, ◌≤◌, ◌++◌, List, [], ◌∷◌, length, All, IfOk, OnOk, slice_index_or, slice_set, MatchOption, None, Some};
 ghost use Rattle.capture_terms.specs.declared.plan.Task.{Task};
-ghost use Rattle.capture_terms.specs.Datagram.{size_of, is_complete};
-ghost use Rattle.tdsl_tool.specs.Members.{IsGrouped, IsEmpty, AreMembers};
+ghost use Rattle.capture_terms.specs.Datagram.{size_of, is_complete, group_from, incomplete};
+ghost use Rattle.capture_terms.specs.declared.plan.Group.{Group};
+ghost use Rattle.tdsl_tool.specs.declared.members.Members as declared;
+ghost use Rattle.tdsl_tool.specs.Members.{IsGrouped, IsEmpty, IsMembers, AreMembers};
 
 use ipv4_fragments::{Plan, Task};
 use std::alloc::{AllocError, Global};
@@ -81,4 +83,33 @@ pub fn is_whole(tasks: &[Task]) -> bool
     tasks
         .iter()
         .any(|task| task.last && size == u64::from(task.start) + u64::from(task.length))
+}
+
+/// The members of a group, where they make up a whole datagram that begins with this task.
+pub fn whole_from<'a>(lists: &'a [Members], group: u32, task: &Task) -> Option<&'a Members>
+    requires there { group < length lists.now }
+    requires few { All (λ (list : declared.Members). length list.tasks.items < 2 ^ 32) lists.now }
+    ensures { (tasks : List Task) → AreMembers tasks (length tasks) (length lists.now) lists.now → MatchOption result (group_from tasks task.now group ≡ None) (λ list. (group_from tasks task.now group ≡ Some list.now.tasks.items) × IsMembers tasks (length tasks) group list.now) }
+{
+    let list = &lists[group as usize];
+    match list.tasks.first() {
+        Some(first) if first.frame == task.frame && is_whole(&list.tasks) => Some(list),
+        _ => None,
+    }
+}
+
+/// How many of the groups have members that don't make up a whole datagram.
+pub fn count_incomplete(lists: &[Members]) -> u32
+    requires few { length lists.now < 2 ^ 32 }
+    requires short { All (λ (list : declared.Members). length list.tasks.items < 2 ^ 32) lists.now }
+    ensures count { (tasks : List Task) (groups : List Group) → length groups ≡ length lists.now → AreMembers tasks (length tasks) (length groups) lists.now → result ≡ incomplete tasks groups }
+    ensures few { result ≤ length lists.now }
+{
+    let mut count = 0;
+    for list in lists {
+        if !is_whole(&list.tasks) {
+            count += 1;
+        }
+    }
+    count
 }

@@ -8,5 +8,5 @@ returns-in_default c = λ tasks count there is are. AreMembers-skip tasks c.args
 pub returns : goal.returns
 returns c = λ tasks count there is are.
     on_ok_both c.add.result
-    (λ numbers added. AreMembers-more tasks c.args.number count c.args.lists.now.items _ c.args.task.now c.in-Some.group c.index_mut.result.now c.add.new.list there is ? ? ? refl numbers added are)
+    (λ numbers added. AreMembers-more tasks c.args.number count c.args.lists.now.items _ c.args.task.now c.in-Some.group c.index_mut.result.now c.add.new.list there is c.in-Some.is (rw c.in-Some.is at c.requires) c.index_mut.ensures.value refl numbers added are)
     c.add.ensures.numbers c.add.ensures.tasks
