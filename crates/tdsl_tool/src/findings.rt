@@ -13,6 +13,7 @@ ghost use Rattle.report.specs.Report.{rule_of};
 ghost use Rattle.tdsl_tool.specs.Inspection.{finding_number, findings_in};
 
 use crate::members::{Members, count_incomplete, members_by_group, whole_from};
+use capture_terms::task_law;
 use ipv4_fragments::{Plan, Task, payload};
 use rule_matcher::{Rules, findings_of};
 use rule_terms::findings_are_there;
@@ -66,6 +67,7 @@ fn add_findings(
     ensures added { OnOk result (found.new.items ≡ found.old.items ++ option_map_or (findings_in rules.now bytes.now) (datagram_from plan.now.tasks.items task.now) []) }
     ensures rules_there { All (λ (f : ℕ). rule_of f < length rules.now) found.old.items → OnOk result (All (λ (f : ℕ). rule_of f < length rules.now) found.new.items) }
 {
+    task_law();
     match task.group {
         None => {
             let from = task.from as usize;

@@ -7,6 +7,8 @@ mod inspection;
 mod laws;
 mod members;
 mod run;
+#[cfg(test)]
+mod tests;
 mod words;
 
 use byte_ends::{RealFiles, RealSink};

@@ -1,0 +1,173 @@
+// What the program writes for whole inputs.
+use crate::run::run_with;
+use byte_ends::{MemoryFiles, MemorySink};
+use std::alloc::{AllocError, Global};
+use std::test::Fail;
+
+const GREET: &[u8] = b"rule greet proto udp dport 53 has \"hello\"";
+const SEAM: &[u8] = b"rule seam proto icmp has \"ghij\"";
+
+const HEADER: [u8; 24] = [
+    0xd4, 0xc3, 0xb2, 0xa1, 2, 0, 4, 0, 0, 0, 0, 0, 0, 0, 0, 0, 0, 0, 4, 0, 1, 0, 0, 0,
+];
+
+// A record with an UDP datagram to port 53 that carries "hello".
+const HELLO: [u8; 63] = [
+    1, 0, 0, 0, 0, 0, 0, 0, 47, 0, 0, 0, 47, 0, 0, 0, 2, 0, 0, 0, 0, 2, 2, 0, 0, 0, 0, 1, 8, 0,
+    0x45, 0, 0, 33, 0, 1, 0, 0, 0x40, 17, 0, 0, 10, 0, 0, 1, 192, 0, 2, 1, 0x0f, 0xa0, 0, 53, 0,
+    13, 0, 0, 104, 101, 108, 108, 111,
+];
+
+// A fragment of an ICMP datagram.
+#[derive(Drop)]
+struct Fragment<'a> {
+    id: u8,
+    at: u16,
+    more: bool,
+    data: &'a [u8],
+}
+
+#[derive(Drop)]
+struct Run {
+    status: u8,
+    out: Vec<u8>,
+    faults: Vec<u8>,
+}
+
+fn run(alloc: Global, words: &[&str], rules: &[u8], capture: &[u8], failing: u64) -> Result<Run, AllocError> {
+    let mut list = Vec::new(alloc);
+    for word in words {
+        list.push(String::from_str(alloc, *word)?)?;
+    }
+    let mut entries = Vec::new(alloc);
+    entries.push((String::from_str(alloc, "r")?, rules.to_vec(alloc)?))?;
+    entries.push((String::from_str(alloc, "c")?, capture.to_vec(alloc)?))?;
+    let mut files = MemoryFiles::new(entries, Vec::new(alloc));
+    let mut failing_calls = Vec::new(alloc);
+    failing_calls.push(failing)?;
+    let mut out = MemorySink::new(alloc, 1000, failing_calls)?;
+    let mut faults = MemorySink::new(alloc, 1000, Vec::new(alloc))?;
+    let status = run_with(&(), alloc, &list, &mut files, &mut out, &mut faults);
+    Ok(Run {
+        status,
+        out: out.written().to_vec(alloc)?,
+        faults: faults.written().to_vec(alloc)?,
+    })
+}
+
+fn fragments(alloc: Global, list: &[Fragment<'_>]) -> Result<Vec<u8>, AllocError> {
+    let mut capture = HEADER.to_vec(alloc)?;
+    let mut number = 0u8;
+    for fragment in list {
+        let length = (34 + fragment.data.len().min(200)) as u8;
+        let flags = fragment.at / 8 % 8192;
+        let more = if fragment.more { 0x20 } else { 0 };
+        capture.extend_from_slice(&[number, 0, 0, 0, 0, 0, 0, 0, length, 0, 0, 0, length, 0, 0, 0])?;
+        capture.extend_from_slice(&[2, 0, 0, 0, 0, 2, 2, 0, 0, 0, 0, 1, 8, 0])?;
+        capture.extend_from_slice(&[0x45, 0, 0, length - 14, 0, fragment.id])?;
+        capture.extend_from_slice(&[(flags / 256) as u8 + more, (flags % 256) as u8, 64, 1, 0, 0])?;
+        capture.extend_from_slice(&[10, 0, 0, 1, 192, 0, 2, 1])?;
+        capture.extend_from_slice(fragment.data)?;
+        number = number.wrapping_add(1);
+    }
+    Ok(capture)
+}
+
+// The report with these counts and finding lines.
+fn report(alloc: Global, counts: [u8; 11], findings: &str) -> Result<Vec<u8>, AllocError> {
+    let words = [
+        "frames", "other", "bad", "cut", "whole", "kept", "aside", "torn", "datagrams",
+        "incomplete", "findings",
+    ];
+    let mut text = String::new(alloc);
+    for (word, count) in words.iter().zip(counts) {
+        text.push_str(format!(in alloc; "{word} {count}\n")?.as_str())?;
+    }
+    text.push_str(findings)?;
+    Ok(text.as_bytes().to_vec(alloc)?)
+}
+
+const COMMAND: [&str; 3] = ["inspect", "r", "c"];
+
+#[test]
+fn reports_are_those_of_the_captures(rt: HostRuntime) -> Result<(), Fail> {
+    let alloc = rt.alloc();
+    let mut hello = HEADER.to_vec(alloc)?;
+    hello.extend_from_slice(&HELLO)?;
+    let mut torn = hello.as_slice().to_vec(alloc)?;
+    torn.extend_from_slice(&[0; 10])?;
+    for (capture, counts, findings) in [
+        (HEADER.as_slice(), [0; 11], ""),
+        (hello.as_slice(), [1, 0, 0, 0, 1, 0, 0, 0, 1, 0, 1], "finding 0 greet 8\n"),
+        (torn.as_slice(), [1, 0, 0, 0, 1, 0, 0, 10, 1, 0, 1], "finding 0 greet 8\n"),
+    ] {
+        let got = run(alloc, &COMMAND, GREET, capture, 0)?;
+        assert_eq!(rt; got.status, 0);
+        assert_eq!(rt; got.out.as_slice(), report(alloc, counts, findings)?.as_slice());
+        assert_eq!(rt; got.faults.as_slice(), b"".as_slice());
+    }
+    Ok(())
+}
+
+#[test]
+fn fragments_make_datagrams(rt: HostRuntime) -> Result<(), Fail> {
+    let alloc = rt.alloc();
+    let first = Fragment { id: 1, at: 0, more: true, data: b"abcdefgh" };
+    let last = Fragment { id: 1, at: 8, more: false, data: b"ijkl" };
+    let later = Fragment { id: 1, at: 16, more: true, data: b"abcdefgh" };
+    for (list, counts, findings) in [
+        ([last.id, 0].as_slice(), [2, 0, 0, 0, 0, 2, 0, 0, 1, 0, 1], "finding 0 seam 6\n"),
+    ] {
+        let _ = list;
+        let capture = fragments(alloc, &[
+            Fragment { id: 1, at: 8, more: false, data: b"ijkl" },
+            Fragment { id: 1, at: 0, more: true, data: b"abcdefgh" },
+        ])?;
+        let got = run(alloc, &COMMAND, SEAM, &capture, 0)?;
+        assert_eq!(rt; got.status, 0);
+        assert_eq!(rt; got.out.as_slice(), report(alloc, counts, findings)?.as_slice());
+    }
+    let doubled = fragments(alloc, &[
+        Fragment { id: 1, at: 0, more: true, data: b"abcdefgh" },
+        Fragment { id: 1, at: 0, more: true, data: b"abcdefgh" },
+        Fragment { id: 1, at: 8, more: false, data: b"ijkl" },
+    ])?;
+    let got = run(alloc, &COMMAND, SEAM, &doubled, 0)?;
+    assert_eq!(rt; got.out.as_slice(), report(alloc, [3, 0, 0, 0, 0, 2, 1, 0, 1, 0, 1], "finding 0 seam 6\n")?.as_slice());
+    let behind = fragments(alloc, &[last, later, Fragment { id: 1, at: 24, more: false, data: b"x" }])?;
+    let got = run(alloc, &COMMAND, SEAM, &behind, 0)?;
+    assert_eq!(rt; got.out.as_slice(), report(alloc, [3, 0, 0, 0, 0, 1, 2, 0, 0, 1, 0], "")?.as_slice());
+    let alone = fragments(alloc, &[first])?;
+    let got = run(alloc, &COMMAND, b"rule head proto any has \"abcd\"", &alone, 0)?;
+    assert_eq!(rt; got.out.as_slice(), report(alloc, [1, 0, 0, 0, 0, 1, 0, 0, 0, 1, 0], "")?.as_slice());
+    Ok(())
+}
+
+#[test]
+fn faults_are_told_with_their_status(rt: HostRuntime) -> Result<(), Fail> {
+    let alloc = rt.alloc();
+    let usage = "usage: inspect|journal [--workers N] [--findings N] RULES CAPTURE | make SEED FRAMES | trial [--workers N] SEED FRAMES\n";
+    let mut hello = HEADER.to_vec(alloc)?;
+    hello.extend_from_slice(&HELLO)?;
+    let mut other_link = hello.as_slice().to_vec(alloc)?;
+    if other_link.len() > 20 {
+        other_link[20] = 147;
+    }
+    for (words, rules, capture, failing, status, line) in [
+        (["inspect", "r"].as_slice(), GREET, hello.as_slice(), 0, 1, usage),
+        ([].as_slice(), GREET, hello.as_slice(), 0, 1, usage),
+        (["inspect", "--workers", "c"].as_slice(), GREET, hello.as_slice(), 0, 1, usage),
+        (["inspect", "q", "c"].as_slice(), GREET, hello.as_slice(), 0, 2, "read fault: q\n"),
+        (["inspect", "r", "q"].as_slice(), GREET, hello.as_slice(), 0, 2, "read fault: q\n"),
+        (COMMAND.as_slice(), GREET, hello.as_slice(), 1, 3, "write fault\n"),
+        (COMMAND.as_slice(), GREET, &HEADER[..23], 0, 5, "bad capture: header at 23\n"),
+        (COMMAND.as_slice(), GREET, other_link.as_slice(), 0, 5, "bad capture: link 147 at 20\n"),
+        (COMMAND.as_slice(), b"rule x proto udp".as_slice(), hello.as_slice(), 0, 8, "unbuilt: rules\n"),
+    ] {
+        let got = run(alloc, words, rules, capture, failing)?;
+        assert_eq!(rt; got.status, status, "{line}");
+        assert_eq!(rt; got.out.as_slice(), b"".as_slice(), "{line}");
+        assert_eq!(rt; got.faults.as_slice(), line.as_bytes(), "{line}");
+    }
+    Ok(())
+}
