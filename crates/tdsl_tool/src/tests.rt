@@ -19,12 +19,16 @@ const HELLO: [u8; 63] = [
 ];
 
 // A fragment of an ICMP datagram.
-#[derive(Drop)]
+#[derive(Clone, Copy)]
 struct Fragment<'a> {
     id: u8,
     at: u16,
     more: bool,
     data: &'a [u8],
+}
+
+fn piece(id: u8, at: u16, more: bool, data: &[u8]) -> Fragment<'_> {
+    Fragment { id, at, more, data }
 }
 
 #[derive(Drop)]
@@ -34,7 +38,7 @@ struct Run {
     faults: Vec<u8>,
 }
 
-fn run(alloc: Global, words: &[&str], rules: &[u8], capture: &[u8], failing: u64) -> Result<Run, AllocError> {
+fn inspected(alloc: Global, words: &[&str], rules: &[u8], capture: &[u8], failing: u64) -> Result<Run, AllocError> {
     let mut list = Vec::new(alloc);
     for word in words {
         list.push(String::from_str(alloc, *word)?)?;
@@ -101,7 +105,7 @@ fn reports_are_those_of_the_captures(rt: HostRuntime) -> Result<(), Fail> {
         (hello.as_slice(), [1, 0, 0, 0, 1, 0, 0, 0, 1, 0, 1], "finding 0 greet 8\n"),
         (torn.as_slice(), [1, 0, 0, 0, 1, 0, 0, 10, 1, 0, 1], "finding 0 greet 8\n"),
     ] {
-        let got = run(alloc, &COMMAND, GREET, capture, 0)?;
+        let got = inspected(alloc, &COMMAND, GREET, capture, 0)?;
         assert_eq!(rt; got.status, 0);
         assert_eq!(rt; got.out.as_slice(), report(alloc, counts, findings)?.as_slice());
         assert_eq!(rt; got.faults.as_slice(), b"".as_slice());
@@ -112,34 +116,47 @@ fn reports_are_those_of_the_captures(rt: HostRuntime) -> Result<(), Fail> {
 #[test]
 fn fragments_make_datagrams(rt: HostRuntime) -> Result<(), Fail> {
     let alloc = rt.alloc();
-    let first = Fragment { id: 1, at: 0, more: true, data: b"abcdefgh" };
-    let last = Fragment { id: 1, at: 8, more: false, data: b"ijkl" };
-    let later = Fragment { id: 1, at: 16, more: true, data: b"abcdefgh" };
-    for (list, counts, findings) in [
-        ([last.id, 0].as_slice(), [2, 0, 0, 0, 0, 2, 0, 0, 1, 0, 1], "finding 0 seam 6\n"),
+    let first = piece(1, 0, true, b"abcdefgh");
+    let last = piece(1, 8, false, b"ijkl");
+    for (rules, list, counts, findings) in [
+        (SEAM, [last, first].as_slice(), [2, 0, 0, 0, 0, 2, 0, 0, 1, 0, 1], "finding 0 seam 6\n"),
+        (
+            b"rule one proto icmp has \"ijkl\"\nrule two proto icmp has \"XXXX\"",
+            [
+                piece(1, 0, true, b"abcdefghijklmnop"),
+                piece(1, 8, true, b"XXXXXXXXYYYYYYYY"),
+                piece(1, 16, false, b"qrst"),
+            ]
+            .as_slice(),
+            [3, 0, 0, 0, 0, 2, 1, 0, 1, 0, 1],
+            "finding 0 one 8\n",
+        ),
+        (SEAM, [first, first, last].as_slice(), [3, 0, 0, 0, 0, 2, 1, 0, 1, 0, 1], "finding 0 seam 6\n"),
+        (
+            b"rule head proto any has \"abcd\"",
+            [first].as_slice(),
+            [1, 0, 0, 0, 0, 1, 0, 0, 0, 1, 0],
+            "",
+        ),
+        (
+            SEAM,
+            [piece(2, 65512, false, b"abc"), piece(3, 65512, false, b"abcd")].as_slice(),
+            [2, 0, 1, 0, 0, 1, 0, 0, 0, 1, 0],
+            "",
+        ),
+        (
+            SEAM,
+            [last, piece(1, 16, true, b"abcdefgh"), piece(1, 24, false, b"x")].as_slice(),
+            [3, 0, 0, 0, 0, 1, 2, 0, 0, 1, 0],
+            "",
+        ),
+        (SEAM, [piece(1, 0, true, b"abcdefghijkl")].as_slice(), [1, 0, 1, 0, 0, 0, 0, 0, 0, 0, 0], ""),
     ] {
-        let _ = list;
-        let capture = fragments(alloc, &[
-            Fragment { id: 1, at: 8, more: false, data: b"ijkl" },
-            Fragment { id: 1, at: 0, more: true, data: b"abcdefgh" },
-        ])?;
-        let got = run(alloc, &COMMAND, SEAM, &capture, 0)?;
+        let capture = fragments(alloc, list)?;
+        let got = inspected(alloc, &COMMAND, rules, &capture, 0)?;
         assert_eq!(rt; got.status, 0);
         assert_eq!(rt; got.out.as_slice(), report(alloc, counts, findings)?.as_slice());
     }
-    let doubled = fragments(alloc, &[
-        Fragment { id: 1, at: 0, more: true, data: b"abcdefgh" },
-        Fragment { id: 1, at: 0, more: true, data: b"abcdefgh" },
-        Fragment { id: 1, at: 8, more: false, data: b"ijkl" },
-    ])?;
-    let got = run(alloc, &COMMAND, SEAM, &doubled, 0)?;
-    assert_eq!(rt; got.out.as_slice(), report(alloc, [3, 0, 0, 0, 0, 2, 1, 0, 1, 0, 1], "finding 0 seam 6\n")?.as_slice());
-    let behind = fragments(alloc, &[last, later, Fragment { id: 1, at: 24, more: false, data: b"x" }])?;
-    let got = run(alloc, &COMMAND, SEAM, &behind, 0)?;
-    assert_eq!(rt; got.out.as_slice(), report(alloc, [3, 0, 0, 0, 0, 1, 2, 0, 0, 1, 0], "")?.as_slice());
-    let alone = fragments(alloc, &[first])?;
-    let got = run(alloc, &COMMAND, b"rule head proto any has \"abcd\"", &alone, 0)?;
-    assert_eq!(rt; got.out.as_slice(), report(alloc, [1, 0, 0, 0, 0, 1, 0, 0, 0, 1, 0], "")?.as_slice());
     Ok(())
 }
 
@@ -164,7 +181,7 @@ fn faults_are_told_with_their_status(rt: HostRuntime) -> Result<(), Fail> {
         (COMMAND.as_slice(), GREET, other_link.as_slice(), 0, 5, "bad capture: link 147 at 20\n"),
         (COMMAND.as_slice(), b"rule x proto udp".as_slice(), hello.as_slice(), 0, 8, "unbuilt: rules\n"),
     ] {
-        let got = run(alloc, words, rules, capture, failing)?;
+        let got = inspected(alloc, words, rules, capture, failing)?;
         assert_eq!(rt; got.status, status, "{line}");
         assert_eq!(rt; got.out.as_slice(), b"".as_slice(), "{line}");
         assert_eq!(rt; got.faults.as_slice(), line.as_bytes(), "{line}");
