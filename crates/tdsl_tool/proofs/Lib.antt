@@ -1,4 +1,6 @@
 pub mod Verdicts
+pub mod Planned
+pub mod Reported
 pub mod OneVerdict
 pub mod Ran
 pub mod FindingNumbers

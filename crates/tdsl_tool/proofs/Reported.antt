@@ -1,0 +1,79 @@
+-- What a report says, and where there is none for too many findings.
+use Rattle.std.proofs.Common.{◌≡◌, ℕ, ◌<◌, ◌≤◌, ◌++◌, List, length, refl, sym, ◌∙◌, ap, arith, map}
+use Rattle.std.specs.Prelude.{true, false, Bool, nat_lt, if◌then◌else◌}
+use Rattle.std.proofs.lemmas.Bool.Decides.{nat_tests}
+use Rattle.capture_terms.specs.Capture.{Contents, contents_of, captured, IsCapture}
+use Rattle.capture_terms.specs.Datagram.{incomplete}
+use Rattle.capture_terms.specs.Plan.{kinds_of, tasks_of, groups_of, IsPlan}
+use Rattle.capture_terms.specs.Kept.{classes_of}
+use Rattle.capture_terms.specs.declared.capture.Capture.{Capture}
+use Rattle.capture_terms.specs.declared.datagram.Class.{Class}
+use Rattle.capture_terms.specs.declared.plan.Group.{Group}
+use Rattle.capture_terms.specs.declared.plan.Plan.{Plan}
+use Rattle.capture_terms.specs.declared.plan.Task.{Task}
+use Rattle.rule_terms.specs.Rule.{Rule}
+use Rattle.report.specs.Report.{text_of, count_line, counts_of, finding_line, report_lines}
+use Rattle.tdsl_tool.specs.Inspection.{counts_in, all_findings, findings_of_capture, report_of}
+use Rattle.tdsl_tool.specs.Verdict.{max_file, max_findings, verdict_under, too_many_findings, reports, answer_is, IsVerdictUnder}
+
+-- the verdict of a count of findings
+under_few : (rules : List Rule) (bytes : List ℕ) (contents : Contents) → length (findings_of_capture rules bytes contents) ≤ max_findings → reports (report_of rules bytes contents) ≡ verdict_under rules bytes contents
+unfolding verdict_under
+under_few rules bytes contents few =
+    let not_many : nat_lt max_findings (length (findings_of_capture rules bytes contents)) ≡ false = grind (arith, nat_tests) in
+    sym (ap (λ (b : Bool). if b then too_many_findings else reports (report_of rules bytes contents)) not_many)
+
+under_many : (rules : List Rule) (bytes : List ℕ) (contents : Contents) → max_findings < length (findings_of_capture rules bytes contents) → too_many_findings ≡ verdict_under rules bytes contents
+unfolding verdict_under
+under_many rules bytes contents many =
+    let too_many : nat_lt max_findings (length (findings_of_capture rules bytes contents)) ≡ true = grind (arith, nat_tests) in
+    sym (ap (λ (b : Bool). if b then too_many_findings else reports (report_of rules bytes contents)) too_many)
+
+-- the text of these classes, groups, open groups and findings
+abbrev text_from : List Rule → Contents → List Class → List Group → ℕ → List ℕ → List ℕ
+text_from rules contents classes groups open_groups findings =
+    text_of (map count_line (counts_in contents classes groups open_groups (length findings)) ++ map (finding_line rules) findings)
+
+-- the report's counts are those of the capture and the plan
+same_counts : (capture : Capture) (plan : Plan) (open_groups findings : ℕ) → counts_of capture plan open_groups findings ≡ counts_in (contents_of capture) plan.classes.items plan.groups.items open_groups findings
+unfolding counts_of
+same_counts capture plan open_groups findings = refl
+
+written : (rules : List Rule) (capture : Capture) (plan : Plan) (open_groups : ℕ) (findings : List ℕ)
+    → text_of (report_lines capture plan rules open_groups findings) ≡ text_from rules (contents_of capture) plan.classes.items plan.groups.items open_groups findings
+written rules capture plan open_groups findings =
+    ap (λ (counts : List (List ℕ × ℕ)). text_of (map count_line counts ++ map (finding_line rules) findings)) (same_counts capture plan open_groups (length findings))
+
+reported : (rules : List Rule) (bytes : List ℕ) (capture : Capture)
+    → text_from rules (contents_of capture) (classes_of (kinds_of bytes capture)) (groups_of (kinds_of bytes capture)) (incomplete (tasks_of (kinds_of bytes capture)) (groups_of (kinds_of bytes capture))) (all_findings rules bytes (tasks_of (kinds_of bytes capture)))
+    ≡ report_of rules bytes (contents_of capture)
+unfolding report_of
+reported rules bytes capture = refl
+
+module _ (rules : List Rule) (bytes : List ℕ) (capture : Capture) (plan : Plan) (short : length bytes ≤ max_file) (says : IsCapture bytes capture) (is : IsPlan bytes capture plan) where
+  -- a report of the plan's findings is that of the file
+  pub report_is : (open_groups : ℕ) (findings text : List ℕ) → findings ≡ all_findings rules bytes plan.tasks.items → length findings ≤ max_findings → open_groups ≡ incomplete plan.tasks.items plan.groups.items
+      → text ≡ text_of (report_lines capture plan rules open_groups findings) → IsVerdictUnder rules bytes (reports text)
+  report_is open_groups findings text found few open_is text_is =
+      let contents = contents_of capture in
+      let all = found ∙ ap (all_findings rules bytes) is.tasks in
+      let open_of = open_is ∙ ap (λ (tasks : List Task). incomplete tasks plan.groups.items) is.tasks ∙ ap (incomplete (tasks_of (kinds_of bytes capture))) is.groups in
+      let few_of : length (findings_of_capture rules bytes contents) ≤ max_findings = omega (arith, few, ap (length {A = ℕ}) all) in
+      record {
+        capture = answer_is (captured contents);
+        capture_is = (short, says);
+        comes_to = ap reports
+          (text_is ∙ written rules capture plan open_groups findings
+          ∙ ap (λ (c : List Class). text_from rules contents c plan.groups.items open_groups findings) is.classes
+          ∙ ap (λ (g : List Group). text_from rules contents (classes_of (kinds_of bytes capture)) g open_groups findings) is.groups
+          ∙ ap (λ (n : ℕ). text_from rules contents (classes_of (kinds_of bytes capture)) (groups_of (kinds_of bytes capture)) n findings) open_of
+          ∙ ap (text_from rules contents (classes_of (kinds_of bytes capture)) (groups_of (kinds_of bytes capture)) (incomplete (tasks_of (kinds_of bytes capture)) (groups_of (kinds_of bytes capture)))) all
+          ∙ reported rules bytes capture)
+          ∙ under_few rules bytes contents few_of;
+      }
+
+  -- more findings than a report may have
+  pub too_many_is : max_findings < length (all_findings rules bytes plan.tasks.items) → IsVerdictUnder rules bytes too_many_findings
+  too_many_is many =
+      let many_of : max_findings < length (findings_of_capture rules bytes (contents_of capture)) = omega (arith, many, ap (λ (tasks : List Task). length (all_findings rules bytes tasks)) is.tasks) in
+      record { capture = answer_is (captured (contents_of capture)); capture_is = (short, says); comes_to = under_many rules bytes (contents_of capture) many_of }
