@@ -12,8 +12,11 @@ mod tests;
 mod words;
 
 use byte_ends::{RealFiles, RealSink};
-use run::run_with;
+use ending::{Ending, status};
+use report::Fault;
+use run::{run_with, tell_fault};
 use std::alloc::Global;
+use std::io::ErrorKind;
 use std::process::ExitCode;
 use std::rt::Env;
 use std::{env, io};
@@ -29,13 +32,19 @@ fn words_of<R: Env + AllocGlobal>(rt: &R, alloc: Global) -> io::Result<Vec<Strin
 
 fn main(rt: HostRuntime) -> ExitCode {
     let alloc = rt.alloc();
-    let words = match words_of(&rt, alloc) {
-        Ok(words) => words,
-        // Words that can't be had, as those that are no text, are none that the program knows.
-        Err(_) => Vec::new(alloc),
-    };
-    let mut files = RealFiles::new(alloc, &rt);
     let mut out = RealSink::new(rt.stdout());
     let mut faults = RealSink::new(rt.stderr());
+    let words = match words_of(&rt, alloc) {
+        Ok(words) => words,
+        Err(error) => match error.kind() {
+            ErrorKind::OutOfMemory => {
+                tell_fault(&mut faults, &Fault::Memory);
+                return ExitCode::from(status(Ending::Memory));
+            }
+            // Words that can't be had, as those that are no text, are none that the program knows.
+            _ => Vec::new(alloc),
+        },
+    };
+    let mut files = RealFiles::new(alloc, &rt);
     ExitCode::from(run_with(&rt, alloc, &words, &mut files, &mut out, &mut faults))
 }

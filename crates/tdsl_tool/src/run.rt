@@ -92,8 +92,8 @@ fn tell<E: Sink>(faults: &mut E, names: FileNames<'_>, ending: Ending)
     }
 }
 
-// Whether the line is written whole changes no status.
-fn tell_fault<E: Sink>(faults: &mut E, fault: &Fault<'_>)
+/// Writes the line of a fault. Whether it is written whole changes no status.
+pub fn tell_fault<E: Sink>(faults: &mut E, fault: &Fault<'_>)
     ensures tells { TellsLine (record { before = E.written faults.old; after = E.written faults.new; faults_before = E.faults faults.old; faults_after = E.faults faults.new }) (fault_words fault.now) }
     ensures counts { E.faults faults.old ≤ E.faults faults.new }
 {
