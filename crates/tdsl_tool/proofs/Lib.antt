@@ -3,3 +3,4 @@ pub mod OneVerdict
 pub mod Ran
 pub mod FindingNumbers
 pub mod MemberSteps
+pub mod IncompleteGroups
