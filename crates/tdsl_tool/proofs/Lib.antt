@@ -4,3 +4,4 @@ pub mod Ran
 pub mod FindingNumbers
 pub mod MemberSteps
 pub mod IncompleteGroups
+pub mod FindingSteps
