@@ -1,4 +1,4 @@
-use Rattle.std.proofs.Common.{◌≡◌, ℕ, List, ◌++◌, ap, sym, subst, ◌∙◌}
+use Rattle.std.proofs.Common.{ℕ, List, ◌++◌, ap, sym, subst, ◌∙◌}
 use Rattle.std.proofs.lemmas.Result.{on_ok_weaker}
 use Rattle.capture_terms.specs.Datagram.{IsDatagramAt}
 use Rattle.tdsl_tool.proofs.FindingSteps.{IsMembers-datagram, complete-some, findings_in-first}

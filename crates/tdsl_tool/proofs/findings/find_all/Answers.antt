@@ -1,4 +1,4 @@
-use Rattle.std.proofs.Common.{◌≡◌, ℕ, ◌^◌, ◌<◌, List, length, ap, sym, subst, ◌∙◌}
+use Rattle.std.proofs.Common.{◌^◌, ◌<◌, length, sym, subst}
 use Rattle.std.specs.Prelude.{All}
 use Rattle.tdsl_tool.specs.Members.{AreMembers}
 use Rattle.tdsl_tool.specs.declared.members.Members.{Members}

@@ -1,4 +1,4 @@
-use Rattle.std.proofs.Common.{◌≡◌, ℕ, ◌+◌, ◌<◌, List, length, ap, ◌∙◌, arith}
+use Rattle.std.proofs.Common.{◌≡◌, ℕ, ◌+◌, ◌<◌, length, ap, ◌∙◌, arith}
 use Rattle.capture_terms.specs.declared.plan.Task.{Task}
 use Rattle.tdsl_tool.proofs.MemberSteps.{any_default}
 use Rattle.tdsl_tool.proofs.FindingSteps.{findings_among, findings_among-step, findings_among-all, findings_among-within}

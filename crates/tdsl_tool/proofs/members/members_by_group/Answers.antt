@@ -1,4 +1,4 @@
-use Rattle.std.proofs.Common.{◌≡◌, ℕ, ◌<◌, length, subst, ap, refl, sym, arith}
+use Rattle.std.proofs.Common.{◌≡◌, ℕ, ◌<◌, length, subst, ap, arith}
 use Rattle.capture_terms.specs.declared.plan.Task.{Task}
 use Rattle.tdsl_tool.specs.Members.{AreMembers}
 use Rattle.tdsl_tool.proofs.MemberSteps.{any_default}
