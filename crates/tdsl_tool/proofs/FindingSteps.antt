@@ -34,9 +34,9 @@ flat_map-filter_map_more {X = X} {A = A} f h xs i d there =
 flat_map-filter_map_within : {X Y A : Type 0} (f : Y → List A) (h : X → Option Y) (xs : List X) (i : ℕ) → length (flat_map f (filter_map h (take i xs))) ≤ length (flat_map f (filter_map h xs))
 flat_map-filter_map_within {X = X} {Y = Y} {A = A} f h xs i =
     let whole = ap (λ (l : List X). length (flat_map f (filter_map h l))) (sym (take-append-drop i xs))
-      ∙ ap (λ (l : List Y). length (flat_map f l)) (filter_map-append h (take i xs) (drop i xs))
-      ∙ ap (length {A = A}) (flat_map-append f (filter_map h (take i xs)) (filter_map h (drop i xs)))
-      ∙ length-append (flat_map f (filter_map h (take i xs))) (flat_map f (filter_map h (drop i xs))) in
+    ∙ ap (λ (l : List Y). length (flat_map f l)) (filter_map-append h (take i xs) (drop i xs))
+    ∙ ap (length {A = A}) (flat_map-append f (filter_map h (take i xs)) (filter_map h (drop i xs)))
+    ∙ length-append (flat_map f (filter_map h (take i xs))) (flat_map f (filter_map h (drop i xs))) in
     omega (arith, whole)
 
 -- the findings in the datagrams that begin with the first so many tasks

@@ -1,7 +1,5 @@
 // What rules find in the datagrams of a plan.
-ghost use Rattle.std.specs.Prelude.{◌≡◌, ℕ, ◌+◌, ◌*◌, ◌^◌, ◌<◌, ◌≤◌, ◌∷◌, ◌++◌, List, length, map, All, OnOk, IfOk, IsErrOf, true};
-ghost use Rattle.capture_terms.specs.declared.plan.Task.{Task};
-ghost use Rattle.std.specs.Prelude.{Contains, []};
+ghost use Rattle.std.specs.Prelude.{◌≡◌, ℕ, ◌^◌, ◌<◌, ◌≤◌, ◌++◌, [], length, map, true, All, Contains, OnOk, IfOk, IsErrOf};
 ghost use Rattle.std.specs.Option.{option_map_or};
 ghost use Rattle.capture_terms.specs.Datagram.{datagram_from, incomplete, is_complete};
 ghost use Rattle.capture_terms.specs.Plan.{IsClassifiable, IsPlan};
@@ -26,7 +24,9 @@ fn append(found: &mut Vec<u64>, frame: u32, here: &[(u16, u16)]) -> Result<(), A
     ensures added { OnOk result (found.new.items ≡ found.old.items ++ map (finding_number frame) here.now) }
 {
     for (rule, place) in here {
-        let number = u64::from(frame) * 4_294_967_296 + u64::from(*rule) * 65_536 + u64::from(*place);
+        let number = u64::from(frame) * 4_294_967_296
+            + u64::from(*rule) * 65_536
+            + u64::from(*place);
         found.push(number)?;
     }
     Ok(())
@@ -90,7 +90,13 @@ fn add_findings(
     match task.group {
         None => {
             let from = task.from as usize;
-            add_found(alloc, found, rules, task, &bytes[from..from + task.length as usize])
+            add_found(
+                alloc,
+                found,
+                rules,
+                task,
+                &bytes[from..from + task.length as usize],
+            )
         }
         Some(group) => match whole_from(lists, group, task) {
             None => Ok(()),

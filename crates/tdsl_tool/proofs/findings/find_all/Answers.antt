@@ -9,13 +9,13 @@ pub match_all-requires-clause-few : goal.match_all-requires-clause-few
 match_all-requires-clause-few c =
     let plan = c.args.plan.now in
     subst (All (λ (list : Members). length list.tasks.items < 2 ^ 32)) (sym c.deref.ensures.value)
-      (AreMembers-few plan.tasks.items (length plan.groups.items) (2 ^ 32) c.in-Ok.lists.items c.requires.few c.in-Ok.ensures)
+    (AreMembers-few plan.tasks.items (length plan.groups.items) (2 ^ 32) c.in-Ok.lists.items c.requires.few c.in-Ok.ensures)
 
 pub count_incomplete-requires-clause-short : goal.count_incomplete-requires-clause-short
 count_incomplete-requires-clause-short c =
     let plan = c.args.plan.now in
     subst (All (λ (list : Members). length list.tasks.items < 2 ^ 32)) (sym c.deref-2.ensures.value)
-      (AreMembers-few plan.tasks.items (length plan.groups.items) (2 ^ 32) c.in-Ok.lists.items c.requires.few c.in-Ok.ensures)
+    (AreMembers-few plan.tasks.items (length plan.groups.items) (2 ^ 32) c.in-Ok.lists.items c.requires.few c.in-Ok.ensures)
 
 pub returns-clause-incomplete : goal.returns-clause-incomplete
 returns-clause-incomplete c =

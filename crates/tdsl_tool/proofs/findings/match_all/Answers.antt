@@ -14,8 +14,8 @@ returns-then-len-gt-MAX_FINDINGS-clause-too_many c = λ is.
     let inside : upto < length c.deref-task-items.result.now = omega arith in
     let there : upto < length tasks = omega (arith, long, inside) in
     let step = findings_among-step rules bytes tasks upto _ c.loop-task.numbers.items c.add_findings.new.found.items there
-      (any_default c.deref-task-items.result.now tasks upto _ _ c.deref-task-items.ensures.value inside)
-      c.loop-task.invariant.are c.in-Ok.ensures.added in
+    (any_default c.deref-task-items.result.now tasks upto _ _ c.deref-task-items.ensures.value inside)
+    c.loop-task.invariant.are c.in-Ok.ensures.added in
     let same = ap (length {A = ℕ}) step in
     let within = findings_among-within rules bytes tasks (upto + 1) in
     omega (arith, same, within)
@@ -32,8 +32,8 @@ loop-task-preserved c =
     record {
       items = c.loop-task.invariant.items;
       are = findings_among-step rules bytes tasks upto _ c.loop-task.numbers.items c.add_findings.new.found.items there
-        (any_default c.deref-task-items.result.now tasks upto _ _ c.deref-task-items.ensures.value inside)
-        c.loop-task.invariant.are c.in-Ok.ensures.added;
+          (any_default c.deref-task-items.result.now tasks upto _ _ c.deref-task-items.ensures.value inside)
+          c.loop-task.invariant.are c.in-Ok.ensures.added;
       few = omega arith;
       rules_there = c.in-Ok.ensures.rules_there c.loop-task.invariant.rules_there;
     }
