@@ -1,0 +1,13 @@
+//! The terms in which the inspection of captures is specified: plain types of captures, frames and
+//! datagrams, and in `specs/` what each of them means.
+#![tactic(auto)]
+
+mod capture;
+mod datagram;
+mod laws;
+mod plan;
+
+pub use capture::{Capture, Endianness, Frame};
+pub use datagram::{Class, Header, Kind, Piece};
+pub use laws::{frames_lie_within, one_answer, some_answer};
+pub use plan::{Group, Plan, Task};

@@ -1,0 +1,20 @@
+-- What the answers of `frames` say of a file.
+use Rattle.std.specs.Prelude.{Option, Some, None, Result, Ok, Err}
+use Rattle.capture_terms.specs.Capture.{Answer, captured, bad_header, other_version, other_link, long_record, too_many_frames, contents_of}
+use Rattle.capture_terms.specs.declared.capture.Capture.{Capture}
+use Rattle.pcap_frames.specs.declared.capture.CaptureEnd.{CaptureEnd}
+use Rattle.pcap_frames.specs.declared.capture.CaptureEnd.TheVariants.{Header, Version, Link, Record, TooMany, Memory}
+
+-- the reason of a refusal; want of memory says nothing of the file
+abbrev pub refusal_of : CaptureEnd → Option Answer
+refusal_of (Header at) = Some (bad_header at)
+refusal_of Version = Some other_version
+refusal_of (Link number) = Some (other_link number)
+refusal_of (Record at) = Some (long_record at)
+refusal_of TooMany = Some too_many_frames
+refusal_of Memory = None
+
+-- what a result says of the file
+abbrev pub answer_of : Result Capture CaptureEnd → Option Answer
+answer_of (Ok capture) = Some (captured (contents_of capture))
+answer_of (Err end) = refusal_of end

@@ -1,0 +1,8 @@
+//! Reads captures in the pcap file format, version 2.4.
+#![tactic(auto)]
+
+mod capture;
+mod record_reader;
+
+pub use capture::{CaptureEnd, frames};
+pub use capture_terms::{Capture, Frame};

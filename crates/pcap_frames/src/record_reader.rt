@@ -1,0 +1,110 @@
+ghost use Rattle.std.specs.Prelude.{◌≡◌, ◌+◌, ◌≤◌, length, IfOk, IfErr, IfSome};
+ghost use Rattle.capture_terms.specs.Capture.{IsAnswer};
+ghost use Rattle.capture_terms.specs.Numbers.{number16, number32};
+ghost use Rattle.pcap_frames.specs.Answer.{refusal_of};
+ghost use Rattle.pcap_frames.specs.Reader.{IsAccepted, IsNext};
+
+use crate::capture::CaptureEnd;
+use byteorder::{BigEndian, ByteOrder, LittleEndian};
+use capture_terms::{Endianness, Frame};
+
+const MAGIC: u32 = 0xa1b2c3d4;
+
+const FILE_HEADER: usize = 24;
+
+const RECORD_HEADER: usize = 16;
+
+const MAX_LENGTH: u32 = 262144;
+
+const ETHERNET: u16 = 1;
+
+const RAW_IP: u16 = 101;
+
+/// What a file header says: the byte order of the file's numbers, and the link type.
+#[derive(Clone, Copy, Debug, PartialEq, Eq)]
+pub struct FileHeader {
+    pub order: Endianness,
+    pub link: u16,
+}
+
+/// What stands at a place where a record may begin.
+#[derive(Clone, Copy, Debug, PartialEq, Eq)]
+pub enum Next {
+    Record(Frame),
+    TooLong,
+    Tail(u64),
+}
+
+#[tactic(auto, unfolding(capture_terms::specs::Numbers::number16))]
+fn u16_at(order: Endianness, bytes: &[u8], at: usize) -> u16
+    requires { at + 2 ≤ length bytes.now }
+    ensures { result ≡ number16 order bytes.now at }
+{
+    match order {
+        Endianness::Little => LittleEndian::read_u16(&bytes[at..]),
+        Endianness::Big => BigEndian::read_u16(&bytes[at..]),
+    }
+}
+
+#[tactic(auto, unfolding(capture_terms::specs::Numbers::number32))]
+fn u32_at(order: Endianness, bytes: &[u8], at: usize) -> u32
+    requires { at + 4 ≤ length bytes.now }
+    ensures { result ≡ number32 order bytes.now at }
+{
+    match order {
+        Endianness::Little => LittleEndian::read_u32(&bytes[at..]),
+        Endianness::Big => BigEndian::read_u32(&bytes[at..]),
+    }
+}
+
+/// The header at the head of a file, or why it is refused.
+pub fn file_header(bytes: &[u8]) -> Result<FileHeader, CaptureEnd>
+    ensures accepted { IfOk result (IsAccepted bytes.now) }
+    ensures refused { IfErr result (λ end. IfSome (refusal_of end) (IsAnswer bytes.now)) }
+{
+    if bytes.len() < FILE_HEADER {
+        return Err(CaptureEnd::Header {
+            at: bytes.len() as u64,
+        });
+    }
+    let order = if u32_at(Endianness::Little, bytes, 0) == MAGIC {
+        Endianness::Little
+    } else if u32_at(Endianness::Big, bytes, 0) == MAGIC {
+        Endianness::Big
+    } else {
+        return Err(CaptureEnd::Header { at: 0 });
+    };
+    if u16_at(order, bytes, 4) != 2 || u16_at(order, bytes, 6) != 4 {
+        return Err(CaptureEnd::Version);
+    }
+    let link = (u32_at(order, bytes, 20) % 65536) as u16;
+    if link != ETHERNET && link != RAW_IP {
+        return Err(CaptureEnd::Link { number: link });
+    }
+    Ok(FileHeader { order, link })
+}
+
+/// What stands at a place of the file.
+pub fn next_at(order: Endianness, bytes: &[u8], at: usize) -> Next
+    requires { at ≤ length bytes.now }
+    ensures { IsNext order bytes.now at result }
+{
+    let left = bytes.len() - at;
+    if left < RECORD_HEADER {
+        return Next::Tail(left as u64);
+    }
+    let frame = Frame {
+        seconds: u32_at(order, bytes, at),
+        fraction: u32_at(order, bytes, at + 4),
+        at: at as u64 + 16,
+        length: u32_at(order, bytes, at + 8),
+        original: u32_at(order, bytes, at + 12),
+    };
+    if frame.length > MAX_LENGTH {
+        Next::TooLong
+    } else if left - RECORD_HEADER < frame.length as usize {
+        Next::Tail(left as u64)
+    } else {
+        Next::Record(frame)
+    }
+}

@@ -1,0 +1,15 @@
+//! Rules, and what they find in the payload of a datagram.
+//!
+//! [`rules`] reads a text of rules, one on each line, and [`findings_of`] gives the rules that match a
+//! datagram, each with the least place at which its first pattern stands. What a rule text and a match
+//! are is defined in `rule_terms`.
+#![tactic(auto)]
+
+mod findings;
+mod line;
+mod reading;
+mod rule_list;
+
+pub use findings::findings_of;
+pub use reading::rules;
+pub use rule_list::{Rules, RulesEnd};

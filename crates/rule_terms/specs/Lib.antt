@@ -1,0 +1,5 @@
+pub mod Rule
+pub mod Grammar
+pub mod RuleText
+pub mod Match
+pub mod Laws

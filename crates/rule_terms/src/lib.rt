@@ -1,0 +1,28 @@
+//! What a rule text is, and what its rules find in a datagram, as definitions (in `specs/`) and laws.
+//!
+//! A text holds one rule on each line: `rule NAME proto any|icmp|tcp|udp [dport N] has "TEXT"`. Each
+//! function here does nothing when it runs: its contract is a law about the definitions, for the
+//! proofs of a caller.
+#![tactic(auto)]
+
+ghost use Rattle.rule_terms.specs.Laws.{RuleTextIsOne, PlacesAreLeast, FindingsAscend, FindingsAreThere};
+
+/// A text of rules reads as one list of rules only.
+pub fn rule_text_is_one()
+    ensures { RuleTextIsOne }
+{}
+
+/// The place of a pattern is the least at which it stands.
+pub fn places_are_least()
+    ensures { PlacesAreLeast }
+{}
+
+/// The findings in a datagram are in order of their rules, and a rule has at most one.
+pub fn findings_ascend()
+    ensures { FindingsAscend }
+{}
+
+/// Each finding is of a rule that is there, at a place within the payload.
+pub fn findings_are_there()
+    ensures { FindingsAreThere }
+{}
