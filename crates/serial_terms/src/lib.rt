@@ -4,6 +4,7 @@
 
 mod call;
 mod committed;
+pub mod laws;
 mod list;
 mod store;
 
