@@ -1,0 +1,7 @@
+pub mod Basics
+pub mod Running
+pub mod Commuting
+pub mod Pools
+pub mod Ordering
+pub mod Legal
+pub mod Renaming
