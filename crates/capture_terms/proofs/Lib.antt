@@ -1,3 +1,4 @@
 pub mod Answers
 pub mod Exists
+pub mod Places
 pub mod Records

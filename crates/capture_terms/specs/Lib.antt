@@ -1,3 +1,6 @@
 pub mod Capture
 pub mod Classes
+pub mod Datagram
+pub mod Kept
 pub mod Numbers
+pub mod Plan

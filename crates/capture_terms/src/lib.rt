@@ -5,9 +5,11 @@
 mod capture;
 mod datagram;
 mod laws;
+mod packing;
 mod plan;
 
 pub use capture::{Capture, Endianness, Frame};
 pub use datagram::{Class, Header, Kind, Piece};
 pub use laws::{frames_lie_within, one_answer, some_answer};
+pub use packing::packing_law;
 pub use plan::{Group, Plan, Task};

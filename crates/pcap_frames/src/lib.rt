@@ -3,6 +3,8 @@
 
 mod capture;
 mod record_reader;
+#[cfg(test)]
+mod tests;
 
 pub use capture::{CaptureEnd, frames};
 pub use capture_terms::{Capture, Frame};

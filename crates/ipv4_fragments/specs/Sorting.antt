@@ -1,0 +1,14 @@
+-- What is made of the frames so far is what is defined of them.
+use Rattle.std.specs.Prelude.{◌≡◌, List, ◌++◌}
+use Rattle.capture_terms.specs.declared.datagram.Kind.{Kind}
+use Rattle.capture_terms.specs.declared.plan.Group.{Group}
+use Rattle.capture_terms.specs.Kept.{classes_of, kept_of}
+use Rattle.capture_terms.specs.Plan.{tasks_from}
+use Rattle.ipv4_fragments.specs.declared.sorting.Sorting.{Sorting}
+use Rattle.ipv4_fragments.specs.Groups.{Follows}
+
+-- frames of these kinds, whatever groups follow
+pub record Holds (sorting : Sorting) (kinds : List Kind) : Type 0 where
+  pub classes : sorting.classes.items ≡ classes_of kinds
+  pub groups : Follows sorting.groups (kept_of kinds)
+  pub tasks : (more : List Group) → sorting.tasks.items ≡ tasks_from (sorting.groups.known.keys ++ more) 0 (classes_of kinds) kinds

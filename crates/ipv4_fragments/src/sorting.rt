@@ -1,0 +1,118 @@
+ghost use Rattle.std.specs.Prelude.{◌≡◌, ℕ, ◌+◌, ◌-◌, ◌^◌, ◌<◌, ◌≤◌, List, [], ◌∷◌, ◌++◌, length, IfOk, OnOk, option_to_list, vec_len, Option};
+ghost use Rattle.capture_terms.specs.declared.datagram.Piece.{Piece};
+ghost use Rattle.capture_terms.specs.declared.datagram.Kind.{Kind};
+ghost use Rattle.capture_terms.specs.declared.plan.Group.{Group};
+ghost use Rattle.capture_terms.specs.Kept.{class_behind, kept_piece};
+ghost use Rattle.capture_terms.specs.Plan.{task_of, task_at, IsClassifiable, IsPlan};
+ghost use Rattle.ipv4_fragments.specs.Groups.{Follows};
+ghost use Rattle.ipv4_fragments.specs.Header.{HasPlaces};
+ghost use Rattle.ipv4_fragments.specs.Sorting.{Holds};
+
+use crate::groups::Groups;
+use crate::header::kind_of;
+use capture_terms::{Capture, Class, Kind, Piece, Plan, Task};
+use std::alloc::{AllocError, Global};
+
+/// What is made of the frames so far.
+#[derive(Drop)]
+pub struct Sorting {
+    pub classes: Vec<Class>,
+    pub tasks: Vec<Task>,
+    pub groups: Groups,
+}
+
+fn make_task(frame: u32, group: Option<u32>, piece: &Piece) -> Task
+    ensures { result ≡ task_of frame group piece.now }
+{
+    Task {
+        frame,
+        group,
+        header: piece.header,
+        start: piece.start,
+        from: piece.from,
+        length: piece.length,
+        last: piece.last,
+    }
+}
+
+// The class of a further frame, and its task.
+fn settle(
+    alloc: Global,
+    groups: &mut Groups,
+    number: u32,
+    kind: &Kind,
+) -> Result<(Class, Option<Task>), AllocError>
+    requires places { HasPlaces kind.now }
+    requires few { length groups.old.known.keys < 2 ^ 32 - 1 }
+    requires long { vec_len groups.old.ranges ≡ length groups.old.known.keys }
+    ensures long { OnOk result (vec_len groups.new.ranges ≡ length groups.new.known.keys) }
+    ensures grows { length groups.new.known.keys ≤ length groups.old.known.keys + 1 }
+    ensures extends { OnOk result ((extra : List Group) × (groups.new.known.keys ≡ groups.old.known.keys ++ extra)) }
+    ensures class { IfOk result (λ found. (kept : List Piece) → Follows groups.old kept → (found.0 ≡ class_behind kept kind.now) × Follows groups.new (kept ++ option_to_list (kept_piece found.0 kind.now))) }
+    ensures task { IfOk result (λ found. (more : List Group) → found.1 ≡ task_at (groups.new.known.keys ++ more) number found.0 kind.now) }
+{
+    match kind {
+        Kind::Other => Ok((Class::Other, None)),
+        Kind::Bad => Ok((Class::Bad, None)),
+        Kind::Cut => Ok((Class::Cut, None)),
+        Kind::Whole(piece) => Ok((Class::Whole, Some(make_task(number, None, piece)))),
+        Kind::Fragment(piece) => match groups.keep(alloc, piece)? {
+            None => Ok((Class::Aside, None)),
+            Some(group) => Ok((Class::Kept, Some(make_task(number, Some(group), piece)))),
+        },
+    }
+}
+
+impl Sorting {
+    /// Nothing.
+    pub fn new(alloc: Global) -> Sorting
+        ensures holds { Holds result [] }
+        ensures empty { length result.groups.known.keys ≡ 0 }
+    {
+        Sorting {
+            classes: Vec::new(alloc),
+            tasks: Vec::new(alloc),
+            groups: Groups::new(alloc),
+        }
+    }
+
+    /// Adds what is made of a further frame.
+    pub fn add(&mut self, alloc: Global, number: u32, kind: &Kind) -> Result<(), AllocError>
+        requires places { HasPlaces kind.now }
+        requires few { length self.old.groups.known.keys < 2 ^ 32 - 1 }
+        requires long { vec_len self.old.groups.ranges ≡ length self.old.groups.known.keys }
+        ensures long { OnOk result (vec_len self.new.groups.ranges ≡ length self.new.groups.known.keys) }
+        ensures grows { length self.new.groups.known.keys ≤ length self.old.groups.known.keys + 1 }
+        ensures holds { OnOk result ((kinds : List Kind) → number ≡ length kinds → Holds self.old kinds → Holds self.new (kinds ++ kind.now ∷ [])) }
+    {
+        let (class, task) = settle(alloc, &mut self.groups, number, kind)?;
+        self.classes.push(class)?;
+        if let Some(task) = task {
+            self.tasks.push(task)?;
+        }
+        Ok(())
+    }
+}
+
+/// Tells the class of each frame of a capture, and plans the work on its datagrams.
+///
+/// A fragment is kept unless it clashes with a kept fragment before it of the same source,
+/// destination, protocol and identification. The tasks are the whole datagrams and the kept
+/// fragments, and the groups are those of the kept fragments, all in capture order.
+///
+/// The one error is want of memory.
+pub fn classify(alloc: Global, capture: &Capture, bytes: &[u8]) -> Result<Plan, AllocError>
+    requires { IsClassifiable bytes.now capture.now }
+    ensures { IfOk result (λ plan. IsPlan bytes.now capture.now plan) }
+{
+    let mut sorting = Sorting::new(alloc);
+    for (number, frame) in capture.frames.iter().enumerate() {
+        let kind = kind_of(capture.link, bytes, frame);
+        sorting.add(alloc, number as u32, &kind)?;
+    }
+    Ok(Plan {
+        classes: sorting.classes,
+        tasks: sorting.tasks,
+        groups: sorting.groups.list(alloc)?,
+    })
+}
