@@ -94,7 +94,7 @@ fn has_destination(wanted: Option<u16>, protocol: u8, payload: &[u8]) -> bool
     }
 }
 
-#[tactic(auto, using(crate::proofs::Places::same_place))]
+#[tactic(auto, using(crate::proofs::Places::found_place))]
 fn place(pattern: &Pattern, payload: &[u8]) -> Option<usize>
     ensures place { result ≡ term.place_of pattern.now payload.now }
     ensures within { IfSome result (λ place. place ≤ length payload.now) }

@@ -13,3 +13,6 @@ mod rule_list;
 pub use findings::findings_of;
 pub use reading::rules;
 pub use rule_list::{Rules, RulesEnd};
+
+#[cfg(test)]
+mod tests;

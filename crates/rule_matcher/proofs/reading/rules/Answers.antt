@@ -2,7 +2,7 @@ use Rattle.std.proofs.Common.{◌≡◌, [], ◌∷◌, List, true, false, lengt
 use Rattle.std.proofs.lemmas.Grind.{common_steps}
 use Rattle.rule_terms.specs.Rule.{Rule}
 use Rattle.rule_terms.specs.Grammar.{read_rule}
-use Rattle.rule_terms.specs.RuleText.{read_line, IsRuleText}
+use Rattle.rule_terms.specs.RuleText.{read_line}
 use Rattle.rule_matcher.specs.Line.{rule_of}
 use Rattle.rule_matcher.proofs.Lines.{IsTaken, reads_more, apart_more, no_rule, taken, whole_text}
 use Rattle.rule_matcher.proofs.reading.rules.Goals as goal

@@ -1,6 +1,5 @@
-use Rattle.std.proofs.Common.{◌≡◌, ◌<◌, length, get_or, sym, ◌∙◌, ap, subst, List}
+use Rattle.std.proofs.Common.{◌≡◌, get_or, ◌∙◌, ap}
 use Rattle.rule_terms.specs.Rule.{Rule}
-use Rattle.rule_terms.specs.RuleText.{name_at}
 use Rattle.rule_matcher.proofs.Lines.{name_at_place}
 use Rattle.rule_matcher.proofs.rule_list.Rules.name.Goals as goal
 

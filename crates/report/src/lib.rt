@@ -1,0 +1,13 @@
+//! The texts that the program writes: the report of a capture's inspection, and the line of a fault.
+#![tactic(auto)]
+
+mod fault;
+mod fault_line;
+mod report_lines;
+
+pub use fault::{CaptureFault, Fault};
+pub use fault_line::write_fault;
+pub use report_lines::report_text;
+
+#[cfg(test)]
+mod tests;
