@@ -1,0 +1,5 @@
+pub mod Work
+pub mod Allowed
+pub mod Stages
+pub mod Opening
+pub mod Laws
