@@ -1,18 +1,18 @@
 -- A fragment is added to its group.
-use Rattle.std.proofs.Common.{◌≡◌, ◌≢◌, ℕ, zero, suc, ◌+◌, ◌-◌, ◌*◌, ◌<◌, ◌≤◌, ◌^◌, cond, List, [], ◌∷◌, ◌++◌, ◌⊎◌, length, inl, inr, ⊎_elim, sym, refl, ap, ◌∙◌, subst, arith}
-use Rattle.std.specs.Prelude.{Option, Some, None}
+use Rattle.std.proofs.Common.{◌≡◌, ◌≢◌, ℕ, ◌+◌, ◌<◌, ◌≤◌, cond, List, [], ◌∷◌, ◌++◌, ◌⊎◌, length, ⊎_elim, sym, refl, ap, ◌∙◌, subst, arith}
+use Rattle.std.specs.Prelude.{Option, Some}
 use mathlib.Core.Logic.{dite}
 use native.Mathlib.Decide.{ℕ_discrete}
 use Rattle.serial_terms.specs.Counts.{times, with_at}
 use Rattle.serial_terms.specs.Serial.{Pool, Sequence, less}
 use Rattle.serial_terms.proofs.Basics.{with_at_same, with_at_other}
-use Rattle.run_stages.specs.Work.{Work, IsWhole, IsMember, IsComplete, IsPlan, given_count, room, total_below, task_item, group_item, piece, end_of, group_word}
+use Rattle.run_stages.specs.Work.{Work, IsWhole, IsMember, IsComplete, IsPlan, task_item, group_item, piece, end_of}
 use Rattle.run_stages.specs.Allowed.{new_bytes, new_total}
 use Rattle.run_stages.specs.Stages.{IsAdded, AllAdded, Stages, LeadThrough, chain_bytes, chain_total, chain_word}
-use Rattle.run_stages.proofs.Counting.{total_at, times_cons_same, times_cons_other, times_push_same, times_push_other, push_length, task_items, group_items, task_no_group}
-use Rattle.run_stages.proofs.Taking.{whole_no_member, one_group, one_there, taken_here, taken_other, taken_le, taken_held, still_added, was_added, some_held}
+use Rattle.run_stages.proofs.Counting.{times_cons_same, times_cons_other, times_push_same, times_push_other, push_length, group_items, task_no_group}
+use Rattle.run_stages.proofs.Taking.{whole_no_member, one_group, taken_here, taken_other, taken_le, taken_held, still_added, was_added, some_held}
 use Rattle.run_stages.proofs.Matching.{lead_same}
-use Rattle.run_stages.proofs.Chains.{bytes_le, total_short, word_bytes, word_total, word_head, ready_complete, complete_ready}
+use Rattle.run_stages.proofs.Chains.{bytes_le, total_short, word_bytes, word_total, ready_complete, complete_ready}
 
 zero_or : (x : ℕ) → (0 < x → ⊥) → x ≡ 0
 zero_or x n = grind arith

@@ -1,6 +1,5 @@
 -- Sums over numbers, and how often a number stands in a list.
-use Rattle.std.proofs.Common.{◌≡◌, ◌≢◌, ℕ, zero, suc, ◌+◌, ◌-◌, ◌*◌, ◌<◌, ◌≤◌, Bool, true, false, cond, eqb, List, [], ◌∷◌, ◌++◌, ◌⊎◌, length, length-append, inl, inr, ⊎_elim, sym, refl, ap, ◌∙◌, subst, arith, eq-eqb, ne_eqb}
-use Rattle.std.proofs.lemmas.Bool.Decides.{nat_tests}
+use Rattle.std.proofs.Common.{◌≡◌, ◌≢◌, ℕ, zero, suc, ◌+◌, ◌<◌, ◌≤◌, cond, eqb, List, [], ◌∷◌, ◌++◌, ◌⊎◌, length, length-append, inl, inr, ⊎_elim, sym, refl, ap, ◌∙◌, subst, arith, eq-eqb, ne_eqb}
 use mathlib.Core.Logic.{dite}
 use native.Mathlib.Decide.{ℕ_discrete}
 use Rattle.serial_terms.specs.Counts.{times, with_at}
@@ -68,6 +67,36 @@ times_numbers i a zero l m = absurd (omega arith)
 times_numbers i a (suc k) l m = dite (ℕ_discrete i a)
     (λ e. let r = times_cons_same i a (numbers_from (a + 1) k) e in let q = times_no_numbers i (a + 1) k (inl (omega arith)) in omega arith)
     (λ ne. times_cons_other i a (numbers_from (a + 1) k) ne ∙ times_numbers i (a + 1) k (omega arith) (omega arith))
+
+-- every number in the list counted once for each time that it stands there
+pub total_add : (f g : ℕ → ℕ) (n : ℕ) → total_below (λ i. f i + g i) n ≡ total_below f n + total_below g n
+total_add f g zero = refl
+total_add f g (suc n) = let a = total_add f g n in omega arith
+
+one_above : (x n : ℕ) → n ≤ x → total_below (λ i. cond (eqb i x) 1 0) n ≡ 0
+one_above x zero l = refl
+one_above x (suc n) l = let a = one_above x n (omega arith) in let b = if_false {A = ℕ} (eqb n x) 1 0 (ne_eqb n x (λ e. omega arith)) in omega arith
+
+one_at : (x n : ℕ) → x < n → total_below (λ i. cond (eqb i x) 1 0) n ≡ 1
+one_at x zero l = absurd (omega arith)
+one_at x (suc n) l = dite (ℕ_discrete n x)
+    (λ e. let a = one_above x n (omega arith) in let b = if_true {A = ℕ} (eqb n x) 1 0 (eq-eqb n x e) in omega arith)
+    (λ e. let a = one_at x n (omega arith) in let b = if_false {A = ℕ} (eqb n x) 1 0 (ne_eqb n x e) in omega arith)
+
+pub total_times : (xs : List ℕ) (n : ℕ) → ((i : ℕ) → 0 < times i xs → i < n) → total_below (λ i. times i xs) n ≡ length xs
+total_times [] n b = no_times n
+  where
+    no_times : (n : ℕ) → total_below (λ i. 0) n ≡ 0
+    no_times zero = refl
+    no_times (suc n) = let a = no_times n in omega arith
+total_times (x ∷ xs) n b = let a = total_add (λ i. cond (eqb i x) 1 0) (λ i. times i xs) n in let o = one_at x n (b x (let a = times_cons_same x x xs refl in omega arith)) in
+    let r = total_times xs n (λ i l. b i (omega arith)) in omega arith
+
+pub numbers_below : (i a k : ℕ) → 0 < times i (numbers_from a k) → i < a + k
+numbers_below i a k l = ⊎_elim (λ m. m) (λ m. let x = times_no_numbers i a k (inr m) in absurd (omega arith)) (below_or i (a + k))
+  where
+    below_or : (i n : ℕ) → (i < n) ⊎ (n ≤ i)
+    below_or i n = grind arith
 
 -- ---- items
 

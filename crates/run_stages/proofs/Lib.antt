@@ -4,3 +4,6 @@ pub mod Taking
 pub mod Matching
 pub mod Chains
 pub mod Adding
+pub mod Filling
+pub mod Runs
+pub mod Steps

@@ -1,13 +1,13 @@
 -- A datagram leaves the queue and is matched.
-use Rattle.std.proofs.Common.{◌≡◌, ◌≢◌, ℕ, zero, suc, ◌+◌, ◌-◌, ◌*◌, ◌/◌, ◌%◌, ◌<◌, ◌≤◌, Bool, true, false, cond, eqb, List, [], ◌∷◌, ◌++◌, ◌⊎◌, length, inl, inr, ⊎_elim, sym, refl, ap, ◌∙◌, subst, arith, append_assoc, eq-eqb, ne_eqb}
+use Rattle.std.proofs.Common.{◌≡◌, ◌≢◌, ℕ, ◌+◌, ◌*◌, ◌/◌, ◌%◌, ◌<◌, eqb, List, [], ◌∷◌, ◌++◌, length, sym, refl, ap, ◌∙◌, subst, arith, append_assoc, eq-eqb, ne_eqb}
 use Rattle.std.specs.Prelude.{Option, Some, None}
 use mathlib.Core.Logic.{dite}
 use native.Mathlib.Decide.{ℕ_discrete}
 use Rattle.serial_terms.specs.Counts.{times, with_at}
 use Rattle.serial_terms.specs.Serial.{Pool, Sequence}
 use Rattle.serial_terms.proofs.Basics.{with_at_same, with_at_other, if_true, if_false, append_nil}
-use Rattle.run_stages.specs.Work.{Work, IsWhole, IsMember, IsComplete, given_count, room, task_item, group_item, item_values, values_of}
-use Rattle.run_stages.specs.Stages.{IsAdded, AllAdded, Stages, LeadThrough, chain_word}
+use Rattle.run_stages.specs.Work.{Work, IsWhole, IsComplete, given_count, task_item, group_item, item_values, values_of}
+use Rattle.run_stages.specs.Stages.{AllAdded, Stages, LeadThrough, chain_word}
 use Rattle.run_stages.proofs.Counting.{times_cons_same, times_cons_other, times_push_same, times_push_other, task_items, group_items, task_no_group}
 use Rattle.run_stages.proofs.Taking.{one_group}
 

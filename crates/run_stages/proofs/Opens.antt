@@ -1,28 +1,15 @@
 -- The opening.
-use Rattle.std.proofs.Common.{◌≡◌, ◌≢◌, ℕ, zero, suc, ◌+◌, ◌-◌, ◌*◌, ◌<◌, ◌≤◌, List, [], ◌∷◌, ◌⊎◌, length, inl, inr, ⊎_elim, sym, refl, ap, ◌∙◌, subst, arith}
-use Rattle.std.specs.Prelude.{min, max}
+use Rattle.std.proofs.Common.{◌≡◌, ℕ, ◌<◌, ◌≤◌, [], ◌⊎◌, length, inr, ⊎_elim, sym, refl, ◌∙◌, arith}
 use Rattle.serial_terms.specs.Counts.{times}
 use Rattle.serial_terms.specs.Stores.{opening_of}
-use Rattle.run_stages.specs.Work.{Work, IsWhole, IsComplete, given_count, room, total_below, numbers_from}
-use Rattle.run_stages.specs.Stages.{IsAdded, AllAdded, IsLawful, Stages}
+use Rattle.run_stages.specs.Work.{Work, given_count, numbers_from}
+use Rattle.run_stages.specs.Stages.{IsAdded, IsLawful}
 use Rattle.run_stages.specs.Opening.{layout_of, opening}
 use Rattle.run_stages.specs.Laws.{OpeningIsLawful}
-use Rattle.run_stages.proofs.Counting.{total_same, numbers_length, times_numbers, times_no_numbers}
+use Rattle.run_stages.proofs.Counting.{total_times, numbers_length, times_numbers, times_no_numbers}
 
 below_or : (i n : ℕ) → (i < n) ⊎ (n ≤ i)
 below_or i n = grind arith
-
--- the first k numbers, each counted once
-count_below : (k n : ℕ) → k ≤ n → total_below (λ i. times i (numbers_from 0 k)) n ≡ k
-count_below k zero l = omega arith
-count_below k (suc n) l = ⊎_elim
-    (λ m. let i = count_below k n (omega arith) in let x = times_no_numbers n 0 k (inr (omega arith)) in omega arith)
-    (λ m. let e : k ≡ suc n = omega arith in subst (λ (z : ℕ). total_below (λ i. times i (numbers_from 0 z)) (suc n) ≡ z) (sym e) (full (suc n) (suc n) (omega arith)))
-    (below_or k (suc n))
-  where
-    full : (m j : ℕ) → j ≤ m → total_below (λ i. times i (numbers_from 0 m)) j ≡ j
-    full m zero h = refl
-    full m (suc j) h = let a = full m j (omega arith) in let b = times_numbers j 0 m (omega arith) (omega arith) in omega arith
 
 module _ (w : Work) (findings : ℕ) where
   n : ℕ
@@ -52,7 +39,7 @@ module _ (w : Work) (findings : ℕ) where
       fits = let l = numbers_length 0 (given_count w 0) in omega arith;
       pooled = pooled;
       once = at_most_once;
-      held = numbers_length 0 (given_count w 0) ∙ sym (count_below (given_count w 0) (length w.tasks) (omega arith));
+      held = numbers_length 0 (given_count w 0) ∙ sym (total_times (numbers_from 0 (given_count w 0)) (length w.tasks) (λ i l. let m = pooled i l in omega arith) ∙ numbers_length 0 (given_count w 0));
       whole = λ i a g. let x = once_pooled i g in omega arith;
       only_whole = λ i l. absurd (omega arith);
       group = λ h c a. absurd (none_added h c.ender (a c.ender c.member));

@@ -1,13 +1,13 @@
 -- A task leaves the pool.
-use Rattle.std.proofs.Common.{◌≡◌, ◌≢◌, ℕ, zero, suc, ◌+◌, ◌-◌, ◌*◌, ◌<◌, ◌≤◌, List, [], ◌∷◌, ◌++◌, ◌⊎◌, length, inl, inr, ⊎_elim, sym, refl, ap, ◌∙◌, subst, arith}
+use Rattle.std.proofs.Common.{◌≡◌, ◌≢◌, ℕ, ◌+◌, ◌-◌, ◌<◌, ◌≤◌, List, [], ◌∷◌, ◌++◌, length, sym, refl, ◌∙◌, subst, arith}
 use Rattle.std.specs.Prelude.{Option, Some, None}
 use mathlib.Core.Logic.{dite}
 use native.Mathlib.Decide.{ℕ_discrete}
-use Rattle.serial_terms.specs.Counts.{times, with_at}
+use Rattle.serial_terms.specs.Counts.{times}
 use Rattle.serial_terms.specs.Serial.{Pool, Sequence, less}
 use Rattle.serial_terms.proofs.Basics.{with_at_same, with_at_other}
-use Rattle.run_stages.specs.Work.{Work, IsWhole, IsMember, IsComplete, given_count, room, total_below, task_item, group_item, piece}
-use Rattle.run_stages.specs.Stages.{IsAdded, AllAdded, Stages}
+use Rattle.run_stages.specs.Work.{Work, IsWhole, IsMember, given_count, total_below, task_item, group_item}
+use Rattle.run_stages.specs.Stages.{IsAdded, Stages}
 use Rattle.run_stages.proofs.Counting.{total_at, times_push_same, times_push_other, push_length, task_items, task_no_group}
 
 -- a whole task is no group's

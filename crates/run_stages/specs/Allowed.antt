@@ -6,7 +6,7 @@ use Rattle.serial_terms.specs.declared.call.Reply.{Reply}
 use Rattle.serial_terms.specs.declared.call.Reply.TheVariants.{Nothing, Absent, Value, Flag}
 use Rattle.serial_terms.specs.declared.call.Done.{Done}
 use Rattle.serial_terms.specs.Serial.{found}
-use Rattle.run_stages.specs.Work.{Work, piece, IsWhole, IsMember, end_of, batch, given_count, numbers_from, task_item, group_item, group_word, head_of, bytes_of, total_of}
+use Rattle.run_stages.specs.Work.{Work, piece, IsWhole, IsMember, end_of, given_count, numbers_from, task_item, group_item, group_word, head_of, bytes_of, total_of}
 
 -- a call made outside of any child, and one made in a child
 abbrev pub outside : Call → Reply → Done

@@ -1,5 +1,5 @@
 -- The states between the records of a run: each task and each group stands at one of its stages.
-use Rattle.std.specs.Prelude.{◌≡◌, ℕ, ◌+◌, ◌*◌, ◌<◌, ◌≤◌, true, false, List, [], ◌∷◌, length, Option, Some, None, if◌then◌else◌}
+use Rattle.std.specs.Prelude.{◌≡◌, ℕ, ◌+◌, ◌<◌, ◌≤◌, List, [], ◌∷◌, length, Option, Some, None, if◌then◌else◌}
 use Rattle.serial_terms.specs.Counts.{times}
 use Rattle.serial_terms.specs.Serial.{State, Pool, Sequence}
 use Rattle.run_stages.specs.Work.{Work, piece, IsWhole, IsMember, IsComplete, end_of, room, given_count, total_below, task_item, group_item, group_word, values_of}

@@ -1,5 +1,5 @@
 -- The work of a run: its tasks, the groups that some of them belong to, and what is to be found.
-use Rattle.std.specs.Prelude.{◌≡◌, ℕ, zero, suc, ◌+◌, ◌*◌, ◌/◌, ◌%◌, ◌^◌, ◌<◌, ◌≤◌, min, max, Bool, true, false, IsTrue, ◌==◌, List, [], ◌∷◌, ◌++◌, length, get_or, Option, Some, None, if◌then◌else◌}
+use Rattle.std.specs.Prelude.{◌≡◌, ℕ, zero, suc, ◌+◌, ◌*◌, ◌/◌, ◌%◌, ◌^◌, ◌<◌, ◌≤◌, min, max, Bool, false, IsTrue, ◌==◌, List, [], ◌∷◌, ◌++◌, length, get_or, Option, Some, None, if◌then◌else◌}
 
 -- one task: a whole frame, which has no group, or a fragment of a group, from `start` on for `size` bytes, the last or not
 pub record Piece : Type 0 where
