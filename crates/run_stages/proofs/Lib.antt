@@ -7,3 +7,5 @@ pub mod Adding
 pub mod Filling
 pub mod Runs
 pub mod Steps
+pub mod Finishing
+pub mod Bounds

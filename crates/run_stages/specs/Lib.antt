@@ -2,4 +2,5 @@ pub mod Work
 pub mod Allowed
 pub mod Stages
 pub mod Opening
+pub mod Ends
 pub mod Laws
