@@ -9,3 +9,5 @@ pub mod Runs
 pub mod Steps
 pub mod Finishing
 pub mod Bounds
+pub mod Capacity
+pub mod Worked

@@ -4,3 +4,4 @@ pub mod Stages
 pub mod Opening
 pub mod Ends
 pub mod Laws
+pub mod Worked
