@@ -5,3 +5,4 @@ pub mod Pools
 pub mod Ordering
 pub mod Legal
 pub mod Renaming
+pub mod Tests
