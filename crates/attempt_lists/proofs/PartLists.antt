@@ -1,9 +1,10 @@
 -- What a list of parts tells of one part, and what an edit of the list changes.
-use Rattle.std.proofs.Common.{◌≡◌, ℕ, zero, suc, ◌<◌, ◌≤◌, eqb, ◌≢◌, List, [], ◌∷◌, ◌++◌, length, get_or, set, map, if◌then◌else◌, Option, Some, None, MatchOption, refl, sym, ap, subst, ◌∙◌, arith}
+use Rattle.std.proofs.Common.{◌≡◌, ℕ, zero, suc, ◌<◌, ◌≤◌, eqb, ◌≢◌, List, [], ◌∷◌, ◌++◌, length, get_or, set, map, if◌then◌else◌, Option, Some, None, MatchOption, refl, sym, ap, subst, ◌∙◌, ◌⊎◌, inl, inr, arith}
 use Rattle.std.specs.List.{position, position_or_len}
 use Rattle.std.proofs.lemmas.List.{get_or_read, set-get_or}
 use Rattle.std.proofs.lemmas.List.Quantifiers.{position-Some}
 use Rattle.std.proofs.lemmas.List.Sums.{fails_before_first}
+use Rattle.std.proofs.Math.Decide.{ℕ_discrete}
 use Rattle.std.proofs.lemmas.Bool.Decides.{nat_tests}
 use Rattle.std.proofs.lemmas.Grind.{common_steps}
 use Rattle.attempt_lists.specs.Parts.{Waiting, waiting_of, marked_of, ChangesOnly, marks, restores}
@@ -138,3 +139,36 @@ adds_part ps part value fresh new none blank is =
     let marks : new.marked ≡ [] = ap (λ (x : Waiting). x.marked) is ∙ blank.2 in
     let waits : waiting_of ps part ++ value ∷ [] ≡ new.waiting = grind (arith, common_steps, (at_none ps part none).0, blank.1, ap (λ (x : Waiting). x.waiting) is) in
     rw waits (subst (λ q. ChangesOnly ps (ps ++ new ∷ []) q new.waiting) here (changes_push ps new (subst (λ q. HasNone ps q) (sym here) none) marks))
+
+none_before_next : (p : Waiting) (ps : List Waiting) (part i : ℕ) → p.part ≢ part → IsFirstOf ps part i → (j : ℕ) → j < suc i → part_at (p ∷ ps) j ≢ part
+none_before_next p ps part i other first zero lt = other
+none_before_next p ps part i other first (suc j) lt = first.none_before j (omega arith)
+
+nowhere_next : (p : Waiting) (ps : List Waiting) (part : ℕ) → p.part ≢ part → HasNone ps part → (j : ℕ) → j < length (p ∷ ps) → part_at (p ∷ ps) j ≢ part
+nowhere_next p ps part other none zero lt = other
+nowhere_next p ps part other none (suc j) lt = none.nowhere j (omega arith)
+
+-- a part has a first entry or none
+first_or_none : (ps : List Waiting) (part : ℕ) → ((i : ℕ) × IsFirstOf ps part i) ⊎ HasNone ps part
+first_or_none [] part = inr (record { nowhere = λ j lt. absurd (omega arith) })
+first_or_none (p ∷ ps) part = elim (ℕ_discrete p.part part) [
+  | yes here ↦ inl (0, record { in_range = omega arith; here = here; none_before = λ j lt. absurd (omega arith) })
+  | no other ↦ elim (first_or_none ps part) [
+    | inl found ↦ inl (
+      suc found.0,
+      record {
+        in_range = omega (arith, found.1.in_range);
+        here = found.1.here;
+        none_before = none_before_next p ps part found.0 other found.1;
+      },
+    )
+    | inr none ↦ inr (record { nowhere = nowhere_next p ps part other none })
+  ]
+]
+
+-- where no part that has an entry waits for anything, none does
+pub nothing_waits : (ps : List Waiting) → ((k : ℕ) → k < length ps → waiting_of ps (part_at ps k) ≡ []) → (part : ℕ) → waiting_of ps part ≡ []
+nothing_waits ps each part = elim (first_or_none ps part) [
+  | inl found ↦ subst (λ q. waiting_of ps q ≡ []) found.1.here (each found.0 found.1.in_range)
+  | inr none ↦ (at_none ps part none).0
+]

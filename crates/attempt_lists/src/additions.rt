@@ -1,5 +1,5 @@
 //! What an attempt adds to parts of the structures when it commits.
-ghost use Rattle.std.specs.Prelude.{◌≡◌, ℕ, ◌+◌, ◌<◌, ◌≤◌, [], ◌∷◌, ◌++◌, length, slice_index, map, position, nat_eq, OnOk, OnErr, MatchOption};
+ghost use Rattle.std.specs.Prelude.{◌≡◌, ℕ, ◌+◌, ◌<◌, ◌≤◌, [], ◌∷◌, ◌++◌, length, slice_index, map, position, nat_eq, IsTrue, ◌↔◌, OnOk, OnErr, MatchOption};
 ghost use Rattle.attempt_lists.specs.Parts.{waiting_of, marked_of, ChangesOnly, marks, restores};
 
 use crate::part::Part;
@@ -61,6 +61,18 @@ impl Additions {
             Some(place) => self.parts[place].waiting() as u64,
             None => 0,
         }
+    }
+
+    /// Whether no addition waits.
+    pub fn is_empty(&self) -> bool
+        ensures { IsTrue result ↔ ((part : ℕ) → waiting_of self.now part ≡ []) }
+    {
+        for p in &self.parts {
+            if self.pending(p.part()) > 0 {
+                return false;
+            }
+        }
+        true
     }
 
     /// The i-th addition to a part among those that wait.

@@ -149,7 +149,8 @@ impl CellList {
 
     /// The cells with their words, in the order in which they came.
     pub fn into_entries(self) -> Vec<(u32, u64)>
-        ensures { result.items ≡ self.entries }
+        ensures entries { result.items ≡ self.entries }
+        ensures once { NoCellTwice self.entries }
     {
         self.entries
     }

@@ -112,7 +112,8 @@ impl CellMap {
 
     /// The cells with their words, in ascending order of cells.
     pub fn into_entries(self) -> Vec<(u32, u64)>
-        ensures { result.items ≡ self.entries }
+        ensures entries { result.items ≡ self.entries }
+        ensures ascending { IsAscending self.entries }
     {
         self.entries
     }

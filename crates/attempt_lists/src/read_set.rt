@@ -146,7 +146,8 @@ impl ReadSet {
 
     /// The cells with their values, in the order in which they were observed.
     pub fn into_observations(self) -> Vec<(u32, u64)>
-        ensures { result.items ≡ self.observations }
+        ensures observations { result.items ≡ self.observations }
+        ensures once { NoCellTwice self.observations }
     {
         self.observations.into_entries()
     }

@@ -117,6 +117,7 @@ fn a_child_is_merged_or_dropped(rt: HostRuntime) -> Result<(), Fail> {
 fn additions_wait_by_part(rt: HostRuntime) -> Result<(), Fail> {
     let alloc = rt.alloc();
     let mut additions = Additions::new(alloc);
+    assert!(rt; additions.is_empty());
     additions.later(alloc, 1, 10)?;
     additions.later(alloc, 0, 20)?;
     additions.later(alloc, 1, 11)?;
@@ -128,6 +129,7 @@ fn additions_wait_by_part(rt: HostRuntime) -> Result<(), Fail> {
         ),
         (1, 2, 0)
     );
+    assert!(rt; !additions.is_empty());
     additions.mark();
     assert_eq!(rt; additions.take_later(1), Some(10));
     additions.later(alloc, 1, 12)?;

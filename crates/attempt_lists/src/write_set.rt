@@ -152,7 +152,8 @@ impl WriteSet {
 
     /// The parent's writes, in ascending order of cells.
     pub fn into_parent(self) -> Vec<(u32, u64)>
-        ensures { result.items ≡ self.parent }
+        ensures entries { result.items ≡ self.parent }
+        ensures ascending { IsAscending self.parent }
     {
         self.parent.into_entries()
     }
