@@ -11,5 +11,5 @@ mod plan;
 pub use capture::{Capture, Endianness, Frame};
 pub use datagram::{Class, Header, Kind, Piece};
 pub use laws::{frames_lie_within, one_answer, some_answer};
-pub use packing::packing_law;
+pub use packing::{datagram_law, packing_law, task_law};
 pub use plan::{Group, Plan, Task};

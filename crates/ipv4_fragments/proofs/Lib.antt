@@ -1,3 +1,5 @@
 pub mod Clashes
+pub mod Copies
+pub mod Fills
 pub mod KeptGroups
 pub mod Sorted

@@ -1,10 +1,12 @@
 //! Which frames of a capture carry internet datagrams, and how fragments make up datagrams.
 #![tactic(auto)]
 
+mod assembly;
 mod groups;
 mod header;
 mod ranges;
 mod sorting;
 
+pub use assembly::payload;
 pub use capture_terms::{Capture, Class, Frame, Group, Header, Plan, Task};
 pub use sorting::classify;

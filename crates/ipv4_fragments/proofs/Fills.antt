@@ -1,0 +1,169 @@
+-- What stands where the tasks of a datagram were copied.
+use Rattle.std.proofs.Common.{◌≡◌, ◌⊎◌, ℕ, zero, suc, ◌+◌, ◌-◌, ◌<◌, ◌≤◌, Bool, true, false, List, [], ◌∷◌, Option, None, Some, refl, sym, ◌∙◌, ap, subst, inl, inr, arith, length, get_or, map}
+use Rattle.std.specs.Prelude.{All, AllPairs, Contains, IsSomeAnd, slice_get, slice_index, filter, count_by, ◌↔◌, cond}
+use Rattle.std.specs.List.{range_with_len}
+use Rattle.std.proofs.lemmas.Bool.{cases_eq, cases_lt}
+use Rattle.std.proofs.lemmas.Bool.Decides.{nat_tests}
+use Rattle.std.proofs.lemmas.List.{get_or_default}
+use Rattle.std.proofs.lemmas.List.Sums.{sum_by-cons}
+use Rattle.std.proofs.lemmas.List.FromFn.{length-map-range_with_len, get_or-map-range_with_len}
+use Rattle.std.proofs.lemmas.Grind.{same_number_lists}
+use Rattle.capture_terms.specs.Datagram.{holds, end_of_task, AreApart, ArePacked, size_of, byte_at, payload_of, IsSound, IsDatagramAt, IsWholeAt, IsGroupAt, members, is_member}
+use Rattle.capture_terms.specs.declared.plan.Task.{Task}
+use Rattle.ipv4_fragments.specs.Payload.{byte_of, Stands, Agree, AreThere, end_at}
+use Rattle.ipv4_fragments.proofs.Copies.{some_and}
+
+-- of tasks that share no place, one holds a place
+pub same_holder : (tasks : List Task) → AllPairs AreApart tasks → (s t : Task) → Contains tasks s → Contains tasks t → (place : ℕ) → holds place s ≡ true → holds place t ≡ true → s ≡ t
+same_holder tasks apart s t at_s at_t place in_s in_t = elim (cases_eq at_s.0 at_t.0) [
+  | inl same ↦ sym at_s.2 ∙ get_or_default tasks at_s.0 s t at_s.1 ∙ ap (λ (k : ℕ). get_or tasks k t) same ∙ at_t.2
+  | inr other ↦ elim (cases_lt at_s.0 at_t.0) [
+    | inl less ↦ absurd (clash (apart at_s.0 at_t.0 s less at_t.1) at_s.2 (get_or_default tasks at_t.0 s t at_t.1 ∙ at_t.2) in_s in_t)
+    | inr most ↦ absurd (clash (apart at_t.0 at_s.0 t (omega (arith, other)) at_s.1) at_t.2 (get_or_default tasks at_s.0 t s at_s.1 ∙ at_s.2) in_t in_s)
+  ]
+]
+  where
+    clash : {a b x y : Task} → AreApart a b → a ≡ x → b ≡ y → holds place x ≡ true → holds place y ≡ true → ⊥
+    clash {a} {b} {x} {y} away is_a is_b in_x in_y = meet x y (subst (λ (k : Task). AreApart k y) is_a (subst (λ (k : Task). AreApart a k) is_b away)) in_x in_y
+      where
+        meet : (x y : Task) → AreApart x y → holds place x ≡ true → holds place y ≡ true → ⊥
+        meet x y away in_x in_y = grind (arith, nat_tests)
+
+-- 1 where the task holds the place
+abbrev mark : ℕ → Task → ℕ
+mark place task = cond (holds place task) 1 0
+
+-- a place that is counted once is held
+held_by : (tasks : List Task) (place : ℕ) → count_by (holds place) tasks ≡ 1 → (t : Task) × Contains tasks t × (holds place t ≡ true) × ((bytes : List ℕ) → byte_at bytes tasks place ≡ byte_of bytes t place)
+held_by [] place one = absurd (omega arith)
+held_by (t ∷ tasks) place one = by_case (holds place t) refl (held_by tasks place)
+  where
+    later : holds place t ≡ false → (s : Task) × Contains tasks s × (holds place s ≡ true) × ((bytes : List ℕ) → byte_at bytes tasks place ≡ byte_of bytes s place) → (s : Task) × Contains (t ∷ tasks) s × (holds place s ≡ true) × ((bytes : List ℕ) → byte_at bytes (t ∷ tasks) place ≡ byte_of bytes s place)
+    later away (s, among, here, byte) = (s, (suc among.0, omega (arith, among.1), among.2), here, λ bytes. rw away (byte bytes))
+
+    by_case : (b : Bool) → holds place t ≡ b → (count_by (holds place) tasks ≡ 1 → (s : Task) × Contains tasks s × (holds place s ≡ true) × ((bytes : List ℕ) → byte_at bytes tasks place ≡ byte_of bytes s place)) → (s : Task) × Contains (t ∷ tasks) s × (holds place s ≡ true) × ((bytes : List ℕ) → byte_at bytes (t ∷ tasks) place ≡ byte_of bytes s place)
+    by_case true here rest = (t, (0, omega arith, refl), here, λ bytes. rw here)
+    by_case false away rest =
+        let more : count_by (holds place) (t ∷ tasks) ≡ mark place t + count_by (holds place) tasks = sum_by-cons (mark place) t tasks in
+        let none : mark place t ≡ 0 = rw away in
+        let tail : count_by (holds place) tasks ≡ 1 = omega (arith, more, none, one) in
+        later away (rest tail)
+
+-- the numbers are those of the datagram's tasks
+pub record Names (tasks : List Task) (numbers : List ℕ) (datagram : List Task) : Type 0 where
+  pub each : (number : ℕ) → Contains numbers number → IsSomeAnd (slice_get tasks number) (Contains datagram)
+  pub all : (task : Task) → Contains datagram task → (number : ℕ) × (slice_get tasks number ≡ Some task) × Contains numbers number
+
+only_one : {X : Type 0} (x y : X) → Contains (x ∷ []) y → x ≡ y
+only_one x y (zero, lt, is) = is
+only_one x y (suc k, lt, is) = absurd (omega arith)
+
+contains_filter : {X : Type 0} (p : X → Bool) (xs : List X) (i : ℕ) (x : X) → slice_get xs i ≡ Some x → p x ≡ true → Contains (filter p xs) x
+contains_filter p [] i x at passes = absurd (cc)
+contains_filter {X} p (y ∷ xs) zero x at passes =
+    let same : y ≡ x = cc in
+    rw (ap p same ∙ passes) (0, omega arith, same)
+contains_filter {X} p (y ∷ xs) (suc i) x at passes = by_case (p y) refl (contains_filter p xs i x at passes)
+  where
+    by_case : (b : Bool) → p y ≡ b → Contains (filter p xs) x → Contains (filter p (y ∷ xs)) x
+    by_case true here among = rw here (suc among.0, omega (arith, among.1), among.2)
+    by_case false away among = rw away among
+
+filter_contains : {X : Type 0} (p : X → Bool) (xs : List X) (x : X) → Contains (filter p xs) x → (i : ℕ) × (slice_get xs i ≡ Some x) × (p x ≡ true)
+filter_contains p [] x among = absurd (omega (arith, among.1))
+filter_contains {X} p (y ∷ xs) x among = by_case (p y) refl among (filter_contains p xs x)
+  where
+    first : (k : ℕ) → k < length (y ∷ filter p xs) → get_or (y ∷ filter p xs) k x ≡ x → p y ≡ true → (Contains (filter p xs) x → (i : ℕ) × (slice_get xs i ≡ Some x) × (p x ≡ true)) → (i : ℕ) × (slice_get (y ∷ xs) i ≡ Some x) × (p x ≡ true)
+    first zero lt is here rest = (0, ap Some is, ap p (sym is) ∙ here)
+    first (suc k) lt is here rest = let found = rest (k, omega arith, is) in (suc found.0, found.1, found.2)
+
+    by_case : (b : Bool) → p y ≡ b → Contains (filter p (y ∷ xs)) x → (Contains (filter p xs) x → (i : ℕ) × (slice_get xs i ≡ Some x) × (p x ≡ true)) → (i : ℕ) × (slice_get (y ∷ xs) i ≡ Some x) × (p x ≡ true)
+    by_case true here among rest =
+        let inside : Contains (y ∷ filter p xs) x = (rw here at among) in
+        first inside.0 inside.1 inside.2 here rest
+    by_case false away among rest =
+        let inside : Contains (filter p xs) x = (rw away at among) in
+        let found = rest inside in
+        (suc found.0, found.1, found.2)
+
+pub names_from : (tasks : List Task) (numbers : List ℕ) (datagram : List Task) → IsDatagramAt tasks numbers datagram → Names tasks numbers datagram
+names_from tasks numbers datagram at = elim at [ inl one ↦ whole one | inr group ↦ grouped group ]
+  where
+    whole : IsWholeAt tasks numbers datagram → Names tasks numbers datagram
+    whole w = record {
+      each = λ number among.
+          let same : w.number ≡ number = only_one w.number number (subst (λ (l : List ℕ). Contains l number) w.alone among) in
+          subst (λ (n : ℕ). IsSomeAnd (slice_get tasks n) (Contains datagram)) same (rw w.there (subst (λ (l : List Task). Contains l w.task) (sym w.is) (0, omega arith, refl)));
+      all = λ task among.
+          let same : w.task ≡ task = only_one w.task task (subst (λ (l : List Task). Contains l task) w.is among) in
+          (w.number, w.there ∙ ap Some same, subst (λ (l : List ℕ). Contains l w.number) (sym w.alone) (0, omega arith, refl));
+    }
+
+    grouped : IsGroupAt tasks numbers datagram → Names tasks numbers datagram
+    grouped g = record {
+      each = λ number among.
+          let found = some_and (λ task. is_member g.group task ≡ true) (slice_get tasks number) (subst (λ (n : ℕ). IsSomeAnd (slice_get tasks n) (λ task. is_member g.group task ≡ true)) among.2 (g.each among.0 number among.1)) in
+          rw found.1 (subst (λ (l : List Task). Contains l found.0) (sym g.is) (contains_filter (is_member g.group) tasks number found.0 found.1 found.2));
+      all = λ task among.
+          let found = filter_contains (is_member g.group) tasks task (subst (λ (l : List Task). Contains l task) g.is among) in
+          (found.0, found.1, g.all found.0 task found.1 found.2);
+    }
+
+named_at : {X : Type 0} (o : Option X) (P : X → Type 0) (x : X) → IsSomeAnd o P → o ≡ Some x → P x
+named_at o P x here is = rw is at here
+
+module _ (bytes : List ℕ) (tasks : List Task) (numbers : List ℕ) (datagram : List Task) (names : Names tasks numbers datagram) (sound : IsSound bytes datagram) where
+  pub agree : Agree bytes tasks numbers
+  agree place n m s t among_n among_m at_s at_t in_s in_t =
+      ap (λ (k : Task). byte_of bytes k place) (same_holder datagram sound.packed.apart s t (named_at (slice_get tasks n) (Contains datagram) s (names.each n among_n) at_s) (named_at (slice_get tasks m) (Contains datagram) t (names.each m among_m) at_t) place in_s in_t)
+
+  pub there : AreThere 65535 bytes tasks numbers
+  there k d lt =
+      let found = some_and (Contains datagram) (slice_get tasks (get_or numbers k d)) (names.each (get_or numbers k d) (k, lt, get_or_default numbers k (get_or numbers k d) d lt)) in
+      let inside : found.0.from + found.0.length ≤ length bytes = subst (λ (t : Task). t.from + t.length ≤ length bytes) found.2.2 (sound.there found.2.0 found.0 found.2.1) in
+      let within : end_of_task found.0 ≤ size_of datagram = subst (λ (t : Task). end_of_task t ≤ size_of datagram) found.2.2 (sound.packed.within found.2.0 found.0 found.2.1) in
+      rw found.1 (inside, omega (arith, sound.short))
+
+  module _ (exact : (end : ℕ) (packed : List Task) → ArePacked end packed → ((size_of packed ≡ end) ↔ ((place : ℕ) → place < end → count_by (holds place) packed ≡ 1))) (whole : List ℕ)
+      (stands : All (λ number. IsSomeAnd (slice_get tasks number) (Stands bytes whole)) numbers)
+      (most : All (λ number. end_at tasks number ≤ length whole) numbers)
+      (least : (end : ℕ) → All (λ number. end_at tasks number ≤ end) numbers → length whole ≤ end) where
+    once : (place : ℕ) → place < size_of datagram → count_by (holds place) datagram ≡ 1
+    once = (exact (size_of datagram) datagram sound.packed).0 refl
+
+    upper : length whole ≤ size_of datagram
+    upper = least (size_of datagram) (λ k d lt. at k d lt)
+      where
+        at : (k d : ℕ) → k < length numbers → end_at tasks (get_or numbers k d) ≤ size_of datagram
+        at k d lt =
+            let found = some_and (Contains datagram) (slice_get tasks (get_or numbers k d)) (names.each (get_or numbers k d) (k, lt, get_or_default numbers k (get_or numbers k d) d lt)) in
+            rw found.1 (subst (λ (t : Task). end_of_task t ≤ size_of datagram) found.2.2 (sound.packed.within found.2.0 found.0 found.2.1))
+
+    -- what stands at a place of the datagram
+    at_place : (place : ℕ) → place < size_of datagram → (place < length whole) × (slice_index whole place ≡ byte_at bytes datagram place)
+    at_place place before =
+        let held = held_by datagram place (once place before) in
+        let named = names.all held.0 held.1 in
+        let k : ℕ = named.2.0 in
+        let is : get_or numbers k named.0 ≡ named.0 = named.2.2 in
+        let end : end_at tasks named.0 ≤ length whole = subst (λ (n : ℕ). end_at tasks n ≤ length whole) is (most k named.0 named.2.1) in
+        let reach : end_of_task held.0 ≤ length whole = rw named.1 at end in
+        let stood : IsSomeAnd (slice_get tasks named.0) (Stands bytes whole) = subst (λ (n : ℕ). IsSomeAnd (slice_get tasks n) (Stands bytes whole)) is (stands k named.0 named.2.1) in
+        let inside : place < end_of_task held.0 = holds_below place held.0 held.2 in
+        (omega arith, named_at (slice_get tasks named.0) (Stands bytes whole) held.0 stood named.1 place held.2 ∙ sym (held.3 bytes))
+      where
+        holds_below : (place : ℕ) (t : Task) → holds place t ≡ true → place < end_of_task t
+        holds_below place t here = grind (arith, nat_tests)
+
+    lower : (n : ℕ) → size_of datagram ≡ n → n ≤ length whole
+    lower zero is = omega arith
+    lower (suc n) is = let last : n < length whole = (at_place n (omega (arith, is))).0 in omega (arith, last)
+
+    pub fills : whole ≡ payload_of bytes datagram
+    fills =
+        let long : length whole ≡ size_of datagram = omega (arith, upper, lower (size_of datagram) refl) in
+        same_number_lists whole (payload_of bytes datagram) (long ∙ sym (length-map-range_with_len (byte_at bytes datagram) 0 (size_of datagram)))
+        (λ place lt. (at_place place (omega (arith, lt, long))).1 ∙ sym (get_or-map-range_with_len (byte_at bytes datagram) 0 (size_of datagram) place place 0 (omega (arith, lt, long)) (omega arith)))
+
+    pub fits : length whole ≤ 65535
+    fits = omega (arith, upper, sound.short)
