@@ -15,14 +15,15 @@ use Rattle.serial_terms.specs.Stores.{opening_of}
 use Rattle.serial_terms.proofs.Basics.{with_at_other, each_append}
 use Rattle.serial_terms.proofs.Legal.{legal_append}
 use Rattle.run_stages.specs.Work.{Work, IsPlan, IsWhole, IsMember, piece, total_below, group_bytes, given_count, task_item, is_some_of}
-use Rattle.run_stages.specs.Allowed.{Appends, IsAllowed, take_whole, match_whole, nothing_queued, nothing_pooled, fill, outside, in_child, gives, next_batch}
+use Rattle.run_stages.specs.Allowed.{Appends, IsAllowed, take_whole, match_whole, nothing_queued, nothing_pooled, fill, gives, next_batch}
+use Rattle.serial_terms.specs.Serial.{outside, in_child}
 use Rattle.run_stages.specs.Stages.{IsLawful}
 use Rattle.run_stages.specs.Opening.{opening, layout_of, IsRunOfWork}
 use Rattle.run_stages.specs.Ends.{IsFinished}
 use Rattle.run_stages.specs.Worked.{written, read_only, no_item, no_task, whole_piece}
 use Rattle.run_stages.specs.Batches.{frames, turns, batch_records, BatchesRun}
 use Rattle.run_stages.proofs.Bounds.{end_lawful}
-use Rattle.run_stages.proofs.Capacity.{opening_within, queue_within, log_within, pool_within, cell_within, after_calls, AreReplied, ran}
+use Rattle.serial_terms.proofs.Stepping.{opening_within, queue_within, log_within, pool_within, cell_within, after_calls, AreReplied, ran}
 use Rattle.run_stages.proofs.Counting.{total_same, numbers_length, times_numbers, push_length}
 use Rattle.run_stages.proofs.Filling.{pool_with}
 use Rattle.run_stages.proofs.Runs.{gives_run}
@@ -111,10 +112,10 @@ turns_run (suc k) i place index s r =
     let u : State = after_calls s taken in
     let q : (u.queues 0).items ≡ task_item i ∷ [] = ap (λ (z : List ℕ). z ++ task_item i ∷ []) r.empty in
     let l = r.logged in let sp = r.space in let ro = r.room in
-    let c1 : IsWithinCapacity u = queue_within (put_pool s 0 (less (s.pools 0) i)) ((s.queues 0).items ++ task_item i ∷ []) (pool_within s (less (s.pools 0) i) r.within) (let e = ap length q in omega arith) in
-    let c2 : IsWithinCapacity (put_queue u 0 (rest (u.queues 0).items)) = queue_within u (rest (u.queues 0).items) c1 (let e = ap (λ (z : List ℕ). length (rest z)) q in omega arith) in
+    let c1 : IsWithinCapacity u = queue_within (put_pool s 0 (less (s.pools 0) i)) 0 ((s.queues 0).items ++ task_item i ∷ []) (pool_within s 0 (less (s.pools 0) i) r.within) (let e = ap length q in omega arith) in
+    let c2 : IsWithinCapacity (put_queue u 0 (rest (u.queues 0).items)) = queue_within u 0 (rest (u.queues 0).items) c1 (let e = ap (λ (z : List ℕ). length (rest z)) q in omega arith) in
     let n = push_length (s.logs 0).items (i * 2 ^ 32 + 8) in
-    let c3 : IsWithinCapacity (turned s i) = log_within (put_queue u 0 (rest (u.queues 0).items)) ((s.logs 0).items ++ (i * 2 ^ 32 + 8) ∷ []) c2 (omega arith) in
+    let c3 : IsWithinCapacity (turned s i) = log_within (put_queue u 0 (rest (u.queues 0).items)) 0 ((s.logs 0).items ++ (i * 2 ^ 32 + 8) ∷ []) c2 (omega arith) in
     let next : Ready (turned s i) (i + 1) k = record {
       empty = ap rest q;
       room = r.room;
@@ -211,7 +212,7 @@ module _ (n : ℕ) (low : 4096 < n) (high : n ≤ 8192) where
     held = let h = o_held in omega arith;
     logged = o_log;
     space = let s = o_space in omega arith;
-    within = opening_within (frames n) 65536;
+    within = opening_within (layout_of (frames n) 65536);
   })
 
   many : length (next_batch (frames n) 0) ≡ n - 4096
@@ -247,7 +248,7 @@ module _ (n : ℕ) (low : 4096 < n) (high : n ≤ 8192) where
         (ap (λ (z : List ℕ). Value (length z)) (sym r.empty), (ap (λ (z : ℕ). Value z) (sym s_cell), (refl, subst (λ (z : State). Runs u (gives (frames n) (next_batch (frames n) 0)) z) (sym e) a)))
 
     filled_within : IsWithinCapacity filled
-    filled_within = pool_within (put_cell s 0 1) (pool_with (s.pools 0) (next_batch (frames n) 0)) (cell_within s 0 1 r.within)
+    filled_within = pool_within (put_cell s 0 1) 0 (pool_with (s.pools 0) (next_batch (frames n) 0)) (cell_within s 0 1 r.within)
 
     second_ready : Ready filled 4096 (n - 4096)
     second_ready = record {

@@ -6,7 +6,8 @@ use Rattle.serial_terms.specs.declared.call.Done.{Done}
 use Rattle.serial_terms.specs.Entries.{Entry}
 use Rattle.serial_terms.specs.Serial.{State}
 use Rattle.run_stages.specs.Work.{Work, IsPlan, task_item}
-use Rattle.run_stages.specs.Allowed.{outside, in_child, gives, next_batch}
+use Rattle.run_stages.specs.Allowed.{gives, next_batch}
+use Rattle.serial_terms.specs.Serial.{outside, in_child}
 use Rattle.run_stages.specs.Stages.{IsLawful}
 use Rattle.run_stages.specs.Opening.{IsRunOfWork}
 use Rattle.run_stages.specs.Ends.{IsFinished}

@@ -7,7 +7,8 @@ use Rattle.serial_terms.specs.Entries.{Entry, Each}
 use Rattle.serial_terms.specs.Histories.{IsLegalHistory}
 use Rattle.serial_terms.specs.Serial.{State}
 use Rattle.run_stages.specs.Work.{Work, Piece, IsPlan}
-use Rattle.run_stages.specs.Allowed.{IsAllowed, outside, in_child}
+use Rattle.run_stages.specs.Allowed.{IsAllowed}
+use Rattle.serial_terms.specs.Serial.{outside, in_child}
 use Rattle.run_stages.specs.Stages.{IsLawful}
 use Rattle.run_stages.specs.Opening.{opening}
 use Rattle.run_stages.specs.Ends.{IsFinished}
