@@ -9,5 +9,5 @@ pub mod Runs
 pub mod Steps
 pub mod Finishing
 pub mod Bounds
-pub mod Capacity
 pub mod Worked
+pub mod Batches

@@ -10,7 +10,8 @@ use Rattle.serial_terms.specs.Serial.{State, less, put_map, put_queue, put_cell,
 use Rattle.serial_terms.proofs.Basics.{with_at_same, with_at_other, with_at_own}
 use Rattle.serial_terms.proofs.Running.{run_split}
 use Rattle.run_stages.specs.Work.{Work, IsPlan, IsWhole, IsMember, task_item, group_item, group_word, head_of}
-use Rattle.run_stages.specs.Allowed.{take_whole, take_fragment, match_whole, match_group, nothing_queued, nothing_pooled, fill, outside, in_child, added, ready, walk, Appends, gives, next_batch, new_bytes, new_total, new_word}
+use Rattle.run_stages.specs.Allowed.{take_whole, take_fragment, match_whole, match_group, nothing_queued, nothing_pooled, fill, added, ready, walk, Appends, gives, next_batch, new_bytes, new_total, new_word}
+use Rattle.serial_terms.specs.Serial.{outside, in_child}
 use Rattle.run_stages.specs.Stages.{Stages, IsLawful, LeadThrough, chain_bytes, chain_total, chain_word}
 use Rattle.run_stages.specs.Laws.{AllowedKeepsLawful}
 use Rattle.run_stages.proofs.Taking.{whole_taken}

@@ -1,24 +1,23 @@
 -- The worked runs.
-use Rattle.std.proofs.Common.{◌≡◌, ◌≢◌, ℕ, zero, suc, ◌+◌, ◌-◌, ◌*◌, ◌<◌, ◌≤◌, true, false, List, [], ◌∷◌, ◌++◌, ◌⊎◌, length, inl, inr, ⊎_elim, sym, refl, ap, ◌∙◌, subst, arith, cond, eqb, ne_eqb, lit<, lit≤}
-use Rattle.std.specs.Prelude.{Option, Some, None}
+use Rattle.std.proofs.Common.{◌≡◌, ℕ, zero, suc, ◌+◌, ◌<◌, ◌≤◌, true, [], ◌∷◌, sym, refl, ap, ◌∙◌, subst, arith, cond, eqb, ne_eqb, lit<, lit≤}
+use Rattle.std.specs.Prelude.{Some, None}
 use mathlib.Core.Logic.{dite}
 use native.Mathlib.Decide.{ℕ_discrete}
-use Rattle.serial_terms.specs.declared.call.Done.{Done}
-use Rattle.serial_terms.specs.Entries.{Entry, Each, by_caller, IsCountedFrom}
-use Rattle.serial_terms.specs.Histories.{IsLegalRun, IsLegalHistory}
-use Rattle.serial_terms.specs.Serial.{State, IsWithinCapacity, IsReplied, step, put_map, put_pool, put_queue, put_log, less}
+use Rattle.serial_terms.specs.Entries.{Each}
+use Rattle.serial_terms.specs.Histories.{IsLegalHistory}
+use Rattle.serial_terms.specs.Serial.{less}
 use Rattle.serial_terms.specs.Stores.{opening_of}
-use Rattle.serial_terms.proofs.Tests.{in_order, all_apart}
-use Rattle.run_stages.specs.Work.{Work, Piece, IsPlan, IsWhole, IsMember, IsComplete, piece, end_of, group_bytes}
+use Rattle.serial_terms.proofs.Showing.{in_order, all_apart}
+use Rattle.run_stages.specs.Work.{IsPlan, IsWhole, IsMember, piece, end_of, group_bytes}
 use Rattle.serial_terms.specs.declared.call.Call.TheVariants.{AppendPlaced}
 use Rattle.serial_terms.specs.declared.call.Reply.TheVariants.{Value}
 use Rattle.serial_terms.proofs.Basics.{if_false}
-use Rattle.run_stages.specs.Allowed.{in_child, IsAllowed, take_whole, take_fragment, match_whole, match_group, nothing_queued, nothing_pooled}
-use Rattle.run_stages.specs.Opening.{opening, layout_of, IsRunOfWork}
-use Rattle.run_stages.specs.Ends.{IsFinished}
+use Rattle.run_stages.specs.Allowed.{IsAllowed, take_whole, take_fragment, match_whole, match_group, nothing_queued, nothing_pooled}
+use Rattle.serial_terms.specs.Serial.{in_child}
+use Rattle.run_stages.specs.Opening.{opening, layout_of}
 use Rattle.run_stages.specs.Worked.{one_frame, one_frame_records, two_fragments, two_fragments_records, IsWholeRun, WorkedRuns}
 use Rattle.run_stages.proofs.Bounds.{end_lawful}
-use Rattle.run_stages.proofs.Capacity.{opening_within, queue_within, log_within, pool_within, map_within, AreLegal, legal, after_records, no_records}
+use Rattle.serial_terms.proofs.Stepping.{opening_within, queue_within, log_within, pool_within, AreLegal, legal, after_records, counted_alone}
 
 one_group : (i : ℕ) → (piece one_frame i).group ≡ None
 one_group zero = refl
@@ -42,26 +41,53 @@ one_frame_whole : IsWhole one_frame 0
 one_frame_whole = record { below = lit< tt; alone = refl }
 
 one_frame_allowed : Each (λ e. IsAllowed one_frame e.dones) one_frame_records
-one_frame_allowed =
-    (nothing_queued refl, (take_whole 0 one_frame_whole refl, (match_whole 0 _ one_frame_whole (refl, refl, tt) refl,
-    (nothing_queued refl, (nothing_pooled refl, (nothing_queued refl, (nothing_pooled refl, tt)))))))
-
-counted_alone : (es : List (Entry Done)) → ((k : ℕ) → 0 ≢ k → Each (λ e. e.caller ≢ k) es) → IsCountedFrom 0 (by_caller 0 es) → (k : ℕ) → IsCountedFrom 0 (by_caller k es)
-counted_alone es alone c k = dite (ℕ_discrete 0 k) (λ e. subst (λ (z : ℕ). IsCountedFrom 0 (by_caller z es)) e c) (λ n. subst (IsCountedFrom 0) (sym (no_records k es (alone k n))) tt)
+one_frame_allowed = (
+  nothing_queued refl,
+  (
+    take_whole 0 one_frame_whole refl,
+    (
+      match_whole 0 _ one_frame_whole (refl, refl, tt) refl,
+      (nothing_queued refl, (nothing_pooled refl, (nothing_queued refl, (nothing_pooled refl, tt)))),
+    ),
+  ),
+)
 
 one_frame_legal : AreLegal (opening one_frame 65536) one_frame_records
 unfolding opening_of layout_of
 one_frame_legal =
-    let c0 = opening_within one_frame 65536 in
-    let c1 = queue_within _ (0 ∷ []) (pool_within _ (less ((opening one_frame 65536).pools 0) 0) c0) (lit≤ tt) in
-    let c2 = log_within _ (8 ∷ []) (queue_within _ [] c1 (lit≤ tt)) (lit≤ tt) in
-    ((refl, tt), c0, (λ _. refl),
-    ((lit< tt, (refl, tt)), c1, (λ e. absurd (cc)),
-    ((refl, (refl, tt)), c2, (λ e. absurd (cc)),
-    ((refl, tt), c2, (λ _. refl),
-    ((refl, tt), c2, (λ _. refl),
-    ((refl, tt), c2, (λ _. refl),
-    ((refl, tt), c2, (λ _. refl), tt)))))))
+    let c0 = opening_within (layout_of one_frame 65536) in
+    let c1 = queue_within _ 0 (0 ∷ []) (pool_within _ 0 (less ((opening one_frame 65536).pools 0) 0) c0) (lit≤ tt) in
+    let c2 = log_within _ 0 (8 ∷ []) (queue_within _ 0 [] c1 (lit≤ tt)) (lit≤ tt) in (
+      (refl, tt),
+      c0,
+      (λ _. refl),
+      (
+        (lit< tt, (refl, tt)),
+        c1,
+        (λ e. absurd (cc)),
+        (
+          (refl, (refl, tt)),
+          c2,
+          (λ e. absurd (cc)),
+          (
+            (refl, tt),
+            c2,
+            (λ _. refl),
+            (
+              (refl, tt),
+              c2,
+              (λ _. refl),
+              (
+                (refl, tt),
+                c2,
+                (λ _. refl),
+                ((refl, tt), c2, (λ _. refl), tt),
+              ),
+            ),
+          ),
+        ),
+      ),
+    )
 
 one_frame_history : IsLegalHistory (opening one_frame 65536) one_frame_records (after_records (opening one_frame 65536) one_frame_records)
 one_frame_history = record {
@@ -125,26 +151,69 @@ two_fragments_plan = record {
 }
 
 two_fragments_allowed : Each (λ e. IsAllowed two_fragments e.dones) two_fragments_records
-two_fragments_allowed =
-    (nothing_queued refl, (take_fragment 0 0 None member0 refl, (nothing_queued refl, (take_fragment 0 1 (Some 262156) member1 refl,
-    (match_group 0 4295753740 (0 ∷ []) (in_child (AppendPlaced 0 6) (Value 0) ∷ []) (lit< tt) (refl, refl, tt) refl,
-    (nothing_queued refl, (nothing_pooled refl, (nothing_queued refl, (nothing_pooled refl, tt)))))))))
+two_fragments_allowed = (
+  nothing_queued refl,
+  (
+    take_fragment 0 0 None member0 refl,
+    (
+      nothing_queued refl,
+      (
+        take_fragment 0 1 (Some 262156) member1 refl,
+        (
+          match_group 0 4295753740 (0 ∷ []) (in_child (AppendPlaced 0 6) (Value 0) ∷ []) (lit< tt) (refl, refl, tt) refl,
+          (nothing_queued refl, (nothing_pooled refl, (nothing_queued refl, (nothing_pooled refl, tt)))),
+        ),
+      ),
+    ),
+  ),
+)
 
 two_fragments_legal : AreLegal (opening two_fragments 65536) two_fragments_records
 unfolding opening_of layout_of
 two_fragments_legal =
-    let c0 = opening_within two_fragments 65536 in
-    let c2 = queue_within _ (1 ∷ []) c0 (lit≤ tt) in
-    let c3 = log_within _ (6 ∷ []) (queue_within _ [] c2 (lit≤ tt)) (lit≤ tt) in
-    ((refl, tt), c0, (λ _. refl),
-    ((lit< tt, (refl, (refl, tt))), record { queues = c0.queues; logs = c0.logs }, (λ e. absurd (cc)),
-    ((refl, tt), record { queues = c0.queues; logs = c0.logs }, (λ _. refl),
-    ((lit< tt, (refl, (refl, (refl, (refl, tt))))), record { queues = c2.queues; logs = c2.logs }, (λ e. absurd (cc)),
-    ((refl, (refl, (refl, (refl, (refl, (refl, (refl, tt))))))), record { queues = c3.queues; logs = c3.logs }, (λ e. absurd (cc)),
-    ((refl, tt), record { queues = c3.queues; logs = c3.logs }, (λ _. refl),
-    ((refl, tt), record { queues = c3.queues; logs = c3.logs }, (λ _. refl),
-    ((refl, tt), record { queues = c3.queues; logs = c3.logs }, (λ _. refl),
-    ((refl, tt), record { queues = c3.queues; logs = c3.logs }, (λ _. refl), tt)))))))))
+    let c0 = opening_within (layout_of two_fragments 65536) in
+    let c2 = queue_within _ 0 (1 ∷ []) c0 (lit≤ tt) in
+    let c3 = log_within _ 0 (6 ∷ []) (queue_within _ 0 [] c2 (lit≤ tt)) (lit≤ tt) in (
+      (refl, tt),
+      c0,
+      (λ _. refl),
+      (
+        (lit< tt, (refl, (refl, tt))),
+        record { queues = c0.queues; logs = c0.logs },
+        (λ e. absurd (cc)),
+        (
+          (refl, tt),
+          record { queues = c0.queues; logs = c0.logs },
+          (λ _. refl),
+          (
+            (lit< tt, (refl, (refl, (refl, (refl, tt))))),
+            record { queues = c2.queues; logs = c2.logs },
+            (λ e. absurd (cc)),
+            (
+              (refl, (refl, (refl, (refl, (refl, (refl, (refl, tt))))))),
+              record { queues = c3.queues; logs = c3.logs },
+              (λ e. absurd (cc)),
+              (
+                (refl, tt),
+                record { queues = c3.queues; logs = c3.logs },
+                (λ _. refl),
+                (
+                  (refl, tt),
+                  record { queues = c3.queues; logs = c3.logs },
+                  (λ _. refl),
+                  (
+                    (refl, tt),
+                    record { queues = c3.queues; logs = c3.logs },
+                    (λ _. refl),
+                    ((refl, tt), record { queues = c3.queues; logs = c3.logs }, (λ _. refl), tt),
+                  ),
+                ),
+              ),
+            ),
+          ),
+        ),
+      ),
+    )
 
 two_fragments_history : IsLegalHistory (opening two_fragments 65536) two_fragments_records (after_records (opening two_fragments 65536) two_fragments_records)
 two_fragments_history = record {

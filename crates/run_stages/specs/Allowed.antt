@@ -1,19 +1,10 @@
 -- The records that a worker may commit.
-use Rattle.std.specs.Prelude.{◌≡◌, ℕ, ◌+◌, ◌-◌, ◌*◌, ◌<◌, true, false, ◌==◌, List, [], ◌∷◌, ◌++◌, length, Option, Some, None, if◌then◌else◌}
-use Rattle.serial_terms.specs.declared.call.Call.{Call}
+use Rattle.std.specs.Prelude.{◌≡◌, ℕ, ◌+◌, ◌-◌, ◌*◌, ◌<◌, true, ◌==◌, List, [], ◌∷◌, ◌++◌, length, Option, Some, None, if◌then◌else◌}
 use Rattle.serial_terms.specs.declared.call.Call.TheVariants.{MapGet, MapPut, MapRemove, Enqueue, Dequeue, QueueLen, Take, Give, AppendPlaced, CellGet, CellPut}
-use Rattle.serial_terms.specs.declared.call.Reply.{Reply}
 use Rattle.serial_terms.specs.declared.call.Reply.TheVariants.{Nothing, Absent, Value, Flag}
 use Rattle.serial_terms.specs.declared.call.Done.{Done}
-use Rattle.serial_terms.specs.Serial.{found}
+use Rattle.serial_terms.specs.Serial.{outside, in_child, found}
 use Rattle.run_stages.specs.Work.{Work, piece, IsWhole, IsMember, end_of, given_count, numbers_from, task_item, group_item, group_word, head_of, bytes_of, total_of}
-
--- a call made outside of any child, and one made in a child
-abbrev pub outside : Call → Reply → Done
-outside c r = record { call = c; reply = r; child = false }
-
-abbrev pub in_child : Call → Reply → Done
-in_child c r = record { call = c; reply = r; child = true }
 
 module _ (w : Work) where
   -- ---- a fragment is added to its group, whose old word is there or not

@@ -5,3 +5,4 @@ pub mod Opening
 pub mod Ends
 pub mod Laws
 pub mod Worked
+pub mod Batches

@@ -1,5 +1,5 @@
 -- Two worked runs of one worker: a whole frame, and a datagram of two fragments of which the last one comes first.
-use Rattle.std.specs.Prelude.{◌≡◌, ℕ, ◌+◌, ◌*◌, Bool, true, false, List, [], ◌∷◌, Option, Some, None}
+use Rattle.std.specs.Prelude.{◌≡◌, ℕ, true, false, List, [], ◌∷◌, Some, None}
 use Rattle.serial_terms.specs.declared.call.Call.TheVariants.{MapGet, MapPut, MapRemove, Enqueue, Dequeue, Take, AppendPlaced}
 use Rattle.serial_terms.specs.declared.call.Reply.TheVariants.{Nothing, Absent, Value}
 use Rattle.serial_terms.specs.declared.call.Done.{Done}
@@ -7,7 +7,8 @@ use Rattle.serial_terms.specs.Entries.{Entry, Each}
 use Rattle.serial_terms.specs.Histories.{IsLegalHistory}
 use Rattle.serial_terms.specs.Serial.{State}
 use Rattle.run_stages.specs.Work.{Work, Piece, IsPlan}
-use Rattle.run_stages.specs.Allowed.{IsAllowed, outside, in_child}
+use Rattle.run_stages.specs.Allowed.{IsAllowed}
+use Rattle.serial_terms.specs.Serial.{outside, in_child}
 use Rattle.run_stages.specs.Stages.{IsLawful}
 use Rattle.run_stages.specs.Opening.{opening}
 use Rattle.run_stages.specs.Ends.{IsFinished}

@@ -1,5 +1,7 @@
 //! Laws of the run. Each function does nothing; what it ensures is the law.
 
+ghost use Rattle.run_stages.specs.Batches.{BatchesRun};
+ghost use Rattle.run_stages.specs.Worked.{WorkedRuns};
 ghost use Rattle.run_stages.specs.Laws.{OpeningIsLawful, AllowedKeepsLawful, RunsEndLawful, RunsAreBounded, FinishedFindsAll, FinishedKeepsIncomplete};
 
 /// The opening is a lawful state.
@@ -32,4 +34,15 @@ pub fn runs_end_lawful()
 /// pool. The items of pool and queue together are at most as many as the queue may have.
 pub fn runs_are_bounded()
     ensures { RunsAreBounded }
+{}
+
+/// The worked runs of one frame and of two fragments are legal histories of allowed records, from the
+/// opening to a finished lawful state.
+pub fn worked_runs_are_whole()
+    ensures { WorkedRuns }
+{}
+
+/// So is a run of 4,097 frames, and of up to 8,192, in which the pool is filled once more.
+pub fn batches_run_on()
+    ensures { BatchesRun }
 {}

@@ -5,4 +5,6 @@ pub mod Pools
 pub mod Ordering
 pub mod Legal
 pub mod Renaming
-pub mod Tests
+pub mod Showing
+pub mod Stepping
+pub mod Worked

@@ -7,4 +7,5 @@ pub mod Histories
 pub mod Stores
 pub mod Parts
 pub mod Renaming
+pub mod Worked
 pub mod Laws

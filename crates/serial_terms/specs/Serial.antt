@@ -136,6 +136,13 @@ after s (CellPut c v) r = put_cell s c v
 
 -- ---- lists of calls
 
+-- a call made outside of any child, and one made in a child
+abbrev pub outside : Call → Reply → Done
+outside c r = record { call = c; reply = r; child = false }
+
+abbrev pub in_child : Call → Reply → Done
+in_child c r = record { call = c; reply = r; child = true }
+
 -- the reply of this call is one that the structures may give, and the state after it
 abbrev pub IsReplied : State → Done → Type 0
 IsReplied s d = Allows s d.call d.reply

@@ -1,5 +1,6 @@
 //! Laws of the serial structures and of histories. Each function does nothing; what it ensures is the law.
 
+ghost use Rattle.serial_terms.specs.Worked.{WorkedHistories};
 ghost use Rattle.serial_terms.specs.Laws.{RunsInParts, RunsToOneState, PartsCommute, ReadingLeavesState, RepliesHaveKinds, SizesStay, PoolsAreCounts, StatesAtPlaces, RenamingKeepsRuns, OrderIsUnique, MergedIsInOrder, MergedIsLegal};
 
 /// Calls one after another run as the first ones and then the others.
@@ -62,4 +63,10 @@ pub fn merged_is_in_order()
 /// places.
 pub fn merged_is_legal()
     ensures { MergedIsLegal }
+{}
+
+/// The worked histories of small stores are legal, end with the contents that are stated beside them, and
+/// what attempts saw that were not committed is consistent with them.
+pub fn worked_histories_are_legal()
+    ensures { WorkedHistories }
 {}

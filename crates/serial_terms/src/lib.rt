@@ -7,6 +7,8 @@ mod committed;
 pub mod laws;
 mod list;
 mod store;
+#[cfg(test)]
+mod tests;
 
 pub use call::{Call, Done, Reply};
 pub use committed::Record;

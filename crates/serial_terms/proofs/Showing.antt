@@ -1,8 +1,8 @@
 -- Tests that show a given list of records to be a history.
-use Rattle.std.proofs.Common.{◌≡◌, ◌≢◌, ℕ, ◌+◌, ◌<◌, ◌≤◌, Bool, true, false, cond, not, ◌&&◌, ◌||◌, eqb, ltb, List, [], ◌∷◌, ◌⊎◌, inl, inr, ⊎_elim, sym, refl, ap, ◌∙◌, subst, arith}
+use Rattle.std.proofs.Common.{◌≡◌, ◌≢◌, ℕ, ◌<◌, Bool, true, false, not, ◌&&◌, ◌||◌, eqb, ltb, List, [], ◌∷◌, ◌⊎◌, inl, inr, ⊎_elim, sym, refl, arith}
 use Rattle.std.proofs.lemmas.Bool.Decides.{nat_tests}
 use Rattle.serial_terms.specs.Entries.{Entry, Each, Precedes, PrecedesThere, IsInOrder, OneWriterAPlace}
-use Rattle.serial_terms.proofs.Basics.{bool_cases, true_or_false}
+use Rattle.serial_terms.proofs.Basics.{true_or_false}
 
 both_true : (a b : Bool) → (a && b) ≡ true → (a ≡ true) × (b ≡ true)
 both_true true b e = (refl, e)
@@ -40,10 +40,13 @@ module _ {D : Type 0} where
   there : (a b : Entry D) → precedes_there a b ≡ true → PrecedesThere a b
   there a b e = ⊎_elim
       (λ x. let y = both_true a.writer (not b.writer) x in inl (y.0, not_true b.writer y.1))
-      (λ x. let y = both_true (same_flag a.writer b.writer) _ x in inr (flags_same a.writer b.writer y.0, ⊎_elim
-          (λ z. inl (less_true a.caller b.caller z))
-          (λ z. let v = both_true (eqb a.caller b.caller) (ltb a.index b.index) z in inr (same_true a.caller b.caller v.0, less_true a.index b.index v.1))
-          (one_true (ltb a.caller b.caller) _ y.1)))
+      (λ x. let y = both_true (same_flag a.writer b.writer) _ x in inr (
+        flags_same a.writer b.writer y.0,
+        ⊎_elim
+            (λ z. inl (less_true a.caller b.caller z))
+            (λ z. let v = both_true (eqb a.caller b.caller) (ltb a.index b.index) z in inr (same_true a.caller b.caller v.0, less_true a.index b.index v.1))
+            (one_true (ltb a.caller b.caller) _ y.1),
+      ))
       (one_true (a.writer && not b.writer) _ e)
 
   shown : (a b : Entry D) → precedes a b ≡ true → Precedes a b
