@@ -43,7 +43,8 @@ all g c = let passes : ℕ → ℕ → Type 0 = g.K.KeyTest.passes in let r : �
     let ok : passes (capacity_of v.capacities r) k = subst (λ (z : List ℕ). passes (capacity_of z r) k) (sym shape_is) c.requires.passes in
     let here : m ≡ capacity_of v.capacities r = cap ∙ sym (ap (λ (z : List ℕ). capacity_of z r) shape_is) in
     let walked : Walked r (capacity_of v.capacities r) k c.find_place.result v w = subst (λ (z : ℕ). Walked r z k c.find_place.result v w) here c.find_place.ensures.walked in
-    let answer : ok_or c.find_place.result record { capacity = capacity_of v.capacities r } ≡ c.ok_or.result = ap (λ (z : ℕ). ok_or c.find_place.result record { capacity = z }) (sym here) ∙ sym c.ok_or.ensures.value in
+    let told_of : ℕ → Result ℕ KeysFull = λ z. ok_or c.find_place.result record { capacity = z } in let moved : told_of (capacity_of v.capacities r) ≡ told_of m = ap told_of (sym here) in let given : c.ok_or.result ≡ told_of m = c.ok_or.ensures.value in
+    let answer : told_of (capacity_of v.capacities r) ≡ c.ok_or.result = ◌∙◌ {b = told_of m} moved (sym given) in
     subst (λ (z : List ℕ × PassView × Result ℕ KeysFull). Told passes z.0 r k z.1 (pass_view c.find_place.new.place.table_id w c.pass.inside.room) z.2) (λ i. (shape_is i, c.pass.view_is i, answer i))
     (told passes r k v w c.pass.inside.seat.table_id c.find_place.new.place.table_id c.pass.inside.room c.pass.inside.room there ok c.find_place.ensures.knows c.find_place.result walked)
 
