@@ -1,0 +1,65 @@
+//! Laws of the serial structures and of histories. Each function does nothing; what it ensures is the law.
+
+ghost use Rattle.serial_terms.specs.Laws.{RunsInParts, RunsToOneState, PartsCommute, ReadingLeavesState, RepliesHaveKinds, SizesStay, PoolsAreCounts, StatesAtPlaces, RenamingKeepsRuns, OrderIsUnique, MergedIsInOrder, MergedIsLegal};
+
+/// Calls one after another run as the first ones and then the others.
+pub fn runs_in_parts()
+    ensures { RunsInParts }
+{}
+
+/// A list of calls with their replies runs from a state to one state only.
+pub fn runs_to_one_state()
+    ensures { RunsToOneState }
+{}
+
+/// Calls about different parts of the structures don't see one another, and leave one state in either
+/// order.
+pub fn parts_commute()
+    ensures { PartsCommute }
+{}
+
+/// Calls that change nothing leave the state.
+pub fn reading_leaves_state()
+    ensures { ReadingLeavesState }
+{}
+
+/// Each reply that the structures may give is of its call's kind.
+pub fn replies_have_kinds()
+    ensures { RepliesHaveKinds }
+{}
+
+/// No call changes a capacity or a number of slots.
+pub fn sizes_stay()
+    ensures { SizesStay }
+{}
+
+/// A take leaves the other items of a pool, in whichever slots they stand, and a give adds one.
+pub fn pools_are_counts()
+    ensures { PoolsAreCounts }
+{}
+
+/// The state at a place is what a beginning of the history runs to, and the rest runs on from it.
+pub fn states_at_places()
+    ensures { StatesAtPlaces }
+{}
+
+/// Map keys may be renamed one to one: the calls run as before.
+pub fn renaming_keeps_runs()
+    ensures { RenamingKeepsRuns }
+{}
+
+/// Two lists of records in the order of a history that have the same members are one.
+pub fn order_is_unique()
+    ensures { OrderIsUnique }
+{}
+
+/// Records merged place by place stand in the order of a history.
+pub fn merged_is_in_order()
+    ensures { MergedIsInOrder }
+{}
+
+/// Records merged place by place are a legal run where each record explains itself by the states at the
+/// places.
+pub fn merged_is_legal()
+    ensures { MergedIsLegal }
+{}
