@@ -1,10 +1,10 @@
 -- What the words say when a directory is closed.
-use Rattle.std.proofs.Common.{◌≡◌, ℕ, zero, suc, ◌+◌, ◌-◌, ◌<◌, ◌≤◌, List, [], ◌∷◌, get_or, Option, Some, None, sym, refl, ap, ◌∙◌, subst, arith, All, SomeIff}
+use Rattle.std.proofs.Common.{◌≡◌, ℕ, zero, suc, ◌+◌, ◌-◌, ◌≤◌, List, [], ◌∷◌, get_or, Option, Some, None, refl, ap, arith, All, SomeIff}
 use mathlib.Core.Option.{some}
 use lib.ListN.{get_elem?}
 use Rattle.std.proofs.lemmas.List.Elements.{All-contains}
 use Rattle.key_directory.specs.declared.view.Claim.{Claim}
-use Rattle.key_directory.specs.Words.{capacity_of, word_number, IsPosition, OnlyBelow}
+use Rattle.key_directory.specs.Words.{word_number}
 use Rattle.key_directory.specs.Rule.{IsKept, Stands}
 use Rattle.key_directory.specs.Directory.{KeyListView, key_in, key_held, claim_of, Claimed, HoldsEachOnce}
 use Rattle.key_directory.proofs.Keeping.{one_position}
@@ -13,7 +13,7 @@ key_in-next : (n k : ℕ) → n ≡ k + 1 → key_in n ≡ Some k
 key_in-next zero k e = absurd (omega arith)
 key_in-next (suc n) k e = let f : n ≡ k = omega arith in ap Some f
 
-word_of : (n k : ℕ) → key_in n ≡ Some k → n ≡ k + 1
+pub word_of : (n k : ℕ) → key_in n ≡ Some k → n ≡ k + 1
 word_of zero k e = absurd (cc)
 word_of (suc n) k e = let f : n ≡ k = cc in omega arith
 

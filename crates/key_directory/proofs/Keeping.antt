@@ -1,9 +1,8 @@
 -- What stays where a position is taken: words that aren't 0 don't change.
-use Rattle.std.proofs.Common.{◌≡◌, ◌≢◌, ℕ, zero, suc, ◌+◌, ◌-◌, ◌%◌, ◌<◌, ◌≤◌, List, [], ◌∷◌, ◌++◌, ◌⊎◌, length, get_or, set, sum, inl, inr, ⊎_elim, sym, refl, ap, ◌∙◌, subst, arith, mod-eq_of_lt, length-set, get_or-set_other, get_or-set_same, All, Contains}
+use Rattle.std.proofs.Common.{◌≡◌, ℕ, zero, suc, ◌+◌, ◌%◌, ◌<◌, List, length, get_or, set, ⊎_elim, sym, refl, ap, ◌∙◌, subst, arith, mod-eq_of_lt, length-set, get_or-set_other, get_or-set_same, All, Contains}
 use mathlib.Core.Logic.{dite}
 use native.Mathlib.Decide.{ℕ_discrete, dec_lt}
 use Rattle.std.proofs.lemmas.List.Elements.{All-weaker, All-contains}
-use Rattle.key_directory.specs.declared.view.Claim.{Claim}
 use Rattle.key_directory.specs.declared.view.Step.{Step}
 use Rattle.key_directory.specs.declared.view.Step.TheVariants.{Load, Exchange, Meeting}
 use Rattle.key_directory.specs.declared.view.View.{View}
@@ -32,6 +31,7 @@ module _ (cs ws ws' : List ℕ) (g : Grows ws ws') where
   pub fits_grows : (total : ℕ) (v : View) → Fits cs total ws v → Fits cs total ws' v
   fits_grows total v f = record {
     same = f.same;
+    spent = f.spent;
     claims = All-weaker (Stands cs ws) (Stands cs ws') (λ c h. (h.0, g (word_number cs c.region c.position) c.key h.1)) v.claims f.claims;
     trail = All-weaker (FitsStep cs ws) (FitsStep cs ws') step_grows v.trail f.trail;
   }

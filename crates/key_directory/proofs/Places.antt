@@ -1,5 +1,5 @@
 -- Where the words of the positions lie, and the walk of a key.
-use Rattle.std.proofs.Common.{◌≡◌, ◌≢◌, ℕ, zero, suc, ◌+◌, ◌-◌, ◌*◌, ◌/◌, ◌%◌, ◌<◌, ◌≤◌, List, [], ◌∷◌, ◌++◌, ◌⊎◌, length, get_or, sum, inl, inr, ⊎_elim, sym, refl, ap, ◌∙◌, subst, arith, mod-eq_of_lt, mod-lt, take}
+use Rattle.std.proofs.Common.{◌≡◌, ℕ, zero, suc, ◌+◌, ◌-◌, ◌%◌, ◌<◌, ◌≤◌, List, [], ◌∷◌, ◌++◌, length, get_or, sum, sym, refl, ap, ◌∙◌, arith, mod-eq_of_lt, mod-lt, take}
 use mathlib.Core.Logic.{dite}
 use native.Mathlib.Decide.{ℕ_discrete, dec_lt, dec_le}
 use Rattle.std.proofs.Math.Nat.{add-mod_right, mod-add-mod}

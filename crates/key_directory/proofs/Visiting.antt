@@ -1,18 +1,17 @@
 -- What the visit of a position tells, and a walk.
-use Rattle.std.proofs.Common.{◌≡◌, ◌≢◌, ℕ, zero, suc, ◌+◌, ◌%◌, ◌<◌, ◌≤◌, Bool, true, false, cond, eqb, List, [], ◌∷◌, ◌++◌, ◌⊎◌, inl, inr, ⊎_elim, sym, refl, ap, ◌∙◌, subst, arith, eq-eqb, ne_eqb, All, Contains, Option, Some, None, append_assoc, append-nil}
+use Rattle.std.proofs.Common.{◌≡◌, ◌≢◌, ℕ, zero, suc, ◌+◌, Bool, true, false, eqb, List, [], ◌∷◌, ◌++◌, ◌⊎◌, inl, inr, ⊎_elim, sym, refl, ap, ◌∙◌, subst, arith, eq-eqb, ne_eqb, Contains, append_assoc}
 use mathlib.Core.Logic.{dite}
 use native.Mathlib.Decide.{ℕ_discrete}
-use Rattle.std.proofs.lemmas.List.Elements.{Contains-append_left, Contains-append_right, Contains-push, All-contains}
+use Rattle.std.proofs.lemmas.List.Elements.{Contains-append_left, Contains-append_right, Contains-push}
 use Rattle.key_directory.specs.declared.view.Claim.{Claim}
 use Rattle.key_directory.specs.declared.view.Step.{Step}
-use Rattle.key_directory.specs.declared.view.Step.TheVariants.{Load, Exchange, Meeting}
+use Rattle.key_directory.specs.declared.view.Step.TheVariants.{Load, Exchange}
 use Rattle.key_directory.specs.declared.view.View.{View}
-use Rattle.key_directory.specs.Words.{capacity_of, word_number, IsPosition, HoldsKey, walk}
-use Rattle.key_directory.specs.Rule.{Stands, FitsStep}
-use Rattle.key_directory.specs.Moves.{with_step, with_claim, Knows, SeatMe, LoadTold, ExchangeTold}
-use Rattle.key_directory.specs.Directory.{Found, FoundOther, IsVisit, taken, free, Visits, claim_of}
-use Rattle.key_directory.specs.Visits.{IsReached, Visited, visited_view}
-use Rattle.key_directory.proofs.Keeping.{found_stands}
+use Rattle.key_directory.specs.Words.{capacity_of, walk}
+use Rattle.key_directory.specs.Moves.{with_step, with_claim, SeatMe, LoadTold, ExchangeTold}
+use Rattle.key_directory.specs.Directory.{Found, FoundOther, taken, free}
+use Rattle.key_directory.specs.Directory.{IsReached}
+use Rattle.key_directory.specs.Visits.{Visited, visited_view}
 
 pub suc_of : (n : ℕ) → n ≢ 0 → (k : ℕ) × (n ≡ k + 1)
 suc_of zero ne = absurd (ne refl)

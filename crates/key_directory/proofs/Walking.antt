@@ -1,17 +1,17 @@
 -- What a walk through a region tells.
-use Rattle.std.proofs.Common.{◌≡◌, ◌≢◌, ℕ, zero, suc, ◌+◌, ◌%◌, ◌<◌, ◌≤◌, Bool, true, false, cond, List, [], ◌∷◌, ◌++◌, ◌⊎◌, inl, inr, ⊎_elim, sym, refl, ap, ◌∙◌, subst, arith, All, Contains, Option, Some, None, append_assoc, append-nil, get_or, length}
+use Rattle.std.proofs.Common.{◌≡◌, ℕ, zero, suc, ◌+◌, ◌<◌, true, false, List, [], ◌∷◌, ◌++◌, sym, refl, ap, ◌∙◌, subst, arith, Contains, Some, None, append_assoc, append-nil}
 use mathlib.Core.Logic.{dite}
-use native.Mathlib.Decide.{ℕ_discrete, dec_lt}
+use native.Mathlib.Decide.{ℕ_discrete}
 use Rattle.std.proofs.lemmas.List.Elements.{All-contains}
-use Rattle.key_directory.specs.declared.view.Claim.{Claim}
 use Rattle.key_directory.specs.declared.view.Step.{Step}
-use Rattle.key_directory.specs.declared.view.Step.TheVariants.{Load, Exchange, Meeting}
+use Rattle.key_directory.specs.declared.view.Step.TheVariants.{Load}
 use Rattle.key_directory.specs.declared.view.View.{View}
-use Rattle.key_directory.specs.Words.{capacity_of, word_number, walk}
-use Rattle.key_directory.specs.Rule.{Stands, FitsStep}
+use Rattle.key_directory.specs.Words.{capacity_of, walk}
+use Rattle.key_directory.specs.Rule.{Stands}
 use Rattle.key_directory.specs.Moves.{Knows}
-use Rattle.key_directory.specs.Directory.{Found, FoundOther, IsVisit, Visits, claim_of}
-use Rattle.key_directory.specs.Visits.{IsReached, Visited, visited_view, Passed, Walked}
+use Rattle.key_directory.specs.Directory.{FoundOther, claim_of}
+use Rattle.key_directory.specs.Directory.{IsReached}
+use Rattle.key_directory.specs.Visits.{Visited, visited_view, Passed, Walked}
 use Rattle.key_directory.proofs.Keeping.{found_stands}
 use Rattle.key_directory.proofs.Visiting.{other_left, other_right}
 

@@ -1,10 +1,10 @@
 -- A directory, its passes and its list of keys as contracts see them.
-use Rattle.std.specs.Prelude.{◌≡◌, ◌≢◌, ℕ, zero, suc, ◌+◌, ◌<◌, ◌≤◌, ◌⊎◌, ◌↔◌, List, [], ◌∷◌, ◌++◌, length, drop, slice_index, Option, Some, None, All, Contains}
+use Rattle.std.specs.Prelude.{◌≡◌, ◌≢◌, ℕ, zero, suc, ◌+◌, ◌<◌, ◌⊎◌, List, [], ◌∷◌, ◌++◌, length, drop, slice_index, Option, Some, None, Result, Ok, Err, Contains}
 use Rattle.atomic_table.specs.Seated.{TableId}
 use Rattle.key_directory.specs.Words.{capacity_of, word_number, walk, OnlyBelow, IsPosition}
 use Rattle.key_directory.specs.declared.view.Claim.{Claim}
 use Rattle.key_directory.specs.declared.view.Step.{Step}
-use Rattle.key_directory.specs.declared.view.Step.TheVariants.{Load, Exchange, Meeting}
+use Rattle.key_directory.specs.declared.view.Step.TheVariants.{Load, Exchange}
 
 -- which directory it is, the number of positions of each region, and the number of callers
 pub record DirectoryView : Type 0 where
@@ -60,6 +60,22 @@ pub data IsVisit (region position : ℕ) : List Step → Type 0 where
 abbrev pub Visits : ℕ → ℕ → ℕ → ℕ → List Step → Type 0
 Visits region capacity key zero steps = steps ≡ []
 Visits region capacity key (suc n) steps = (before : List Step) × (last : List Step) × Visits region capacity key n before × IsVisit region (walk capacity key n) last × (steps ≡ before ++ last)
+
+-- The position is the first of the key's walk that no other key was found to hold: each one before it was found to hold another key
+pub record IsReached (capacities : List ℕ) (steps : List Step) (c : Claim) : Type 0 where
+  pub tries : ℕ
+  pub within : tries < capacity_of capacities c.region
+  pub there : walk (capacity_of capacities c.region) c.key tries ≡ c.position
+  pub before : (n : ℕ) → n < tries → FoundOther steps c.region (walk (capacity_of capacities c.region) c.key n) c.key
+
+-- every position of the region was found to hold another key
+abbrev pub AreAllOthers : List ℕ → List Step → ℕ → ℕ → Type 0
+AreAllOthers capacities steps region key = (position : ℕ) → position < capacity_of capacities region → FoundOther steps region position key
+
+-- the steps of a claim that gave this answer: it visits the positions of the walk up to the one answered, or all of them
+abbrev pub Walks : {E : Type 0} → List ℕ → ℕ → ℕ → List Step → Result ℕ E → Type 0
+Walks capacities region key steps (Ok position) = (tries : ℕ) × (tries < capacity_of capacities region) × (walk (capacity_of capacities region) key tries ≡ position) × Visits region (capacity_of capacities region) key (suc tries) steps
+Walks capacities region key steps (Err e) = Visits region (capacity_of capacities region) key (capacity_of capacities region) steps
 
 -- Each claim is of a position that is there, for a key that may stand there. Within a region one key has one position and one position one key, and where only keys below the capacity pass, a key has the position of its own number
 pub record AreOneToOne (passes : ℕ → ℕ → Type 0) (capacities : List ℕ) (claims : List Claim) : Type 0 where

@@ -6,7 +6,7 @@ use Rattle.key_directory.specs.declared.layout.Region.{Region}
 use Rattle.key_directory.specs.declared.view.View.{View}
 use Rattle.key_directory.specs.Words.{laid_out, capacities_of}
 use Rattle.key_directory.specs.Moves.{SeatMe, Knows}
-use Rattle.key_directory.specs.Directory.{DirectoryView, PassView}
+use Rattle.key_directory.specs.Directory.{PassView}
 
 -- The table has the words of the layout and no slot, and was told this layout when it was made
 pub record IsLaidOut (count slots : ℕ) (key layout : Layout) : Type 0 where

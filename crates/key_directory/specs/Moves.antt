@@ -1,5 +1,5 @@
 -- What each step makes of the view of the seat that steps, and what it tells.
-use Rattle.std.specs.Prelude.{◌≡◌, ◌≢◌, ℕ, ◌+◌, ◌-◌, ◌<◌, ◌≤◌, ◌⊎◌, List, [], ◌∷◌, ◌++◌, All, Contains}
+use Rattle.std.specs.Prelude.{◌≡◌, ◌≢◌, ℕ, ◌+◌, ◌-◌, ◌≤◌, ◌⊎◌, List, [], ◌∷◌, ◌++◌, All, Contains}
 use Rattle.atomic_table.specs.Table.{Me, Step as TableStep}
 use Rattle.key_directory.specs.Rule.{IsKept, Stands, FitsStep}
 use Rattle.key_directory.specs.declared.view.Claim.{Claim}

@@ -1,18 +1,11 @@
 -- What the visit of one position, and a walk, make of the view of the seat.
-use Rattle.std.specs.Prelude.{◌≡◌, ◌≢◌, ℕ, suc, Bool, true, false, cond, ◌+◌, ◌<◌, ◌≤◌, List, [], ◌∷◌, ◌++◌, Contains, Option, Some, None}
-use Rattle.key_directory.specs.Words.{capacity_of, walk}
+use Rattle.std.specs.Prelude.{◌≡◌, ℕ, suc, Bool, true, false, cond, ◌+◌, ◌<◌, List, [], ◌∷◌, ◌++◌, Contains, Option, Some, None}
+use Rattle.key_directory.specs.Words.{walk}
 use Rattle.key_directory.specs.Directory.{FoundOther, IsVisit, Visits, claim_of}
 use Rattle.key_directory.specs.declared.view.Claim.{Claim}
 use Rattle.key_directory.specs.declared.view.Step.{Step}
-use Rattle.key_directory.specs.declared.view.Step.TheVariants.{Load, Exchange}
+use Rattle.key_directory.specs.declared.view.Step.TheVariants.{Load}
 use Rattle.key_directory.specs.declared.view.View.{View}
-
--- the positions of the key's walk before this one were found to hold other keys
-pub record IsReached (capacities : List ℕ) (trail : List Step) (c : Claim) : Type 0 where
-  pub tries : ℕ
-  pub within : tries < capacity_of capacities c.region
-  pub there : walk (capacity_of capacities c.region) c.key tries ≡ c.position
-  pub before : (n : ℕ) → n < tries → FoundOther trail c.region (walk (capacity_of capacities c.region) c.key n) c.key
 
 abbrev pub visited_view : Claim → Bool → List Step → View → View
 visited_view c claimed steps v = record v { claims = cond claimed (v.claims ++ c ∷ []) v.claims; trail = v.trail ++ steps }

@@ -1,5 +1,5 @@
 -- Where the positions of a directory lie among its words, and what the words say.
-use Rattle.std.specs.Prelude.{◌≡◌, ◌≢◌, ℕ, zero, suc, ◌+◌, ◌%◌, ◌<◌, List, [], ◌∷◌, slice_index, length, Option, Some, None}
+use Rattle.std.specs.Prelude.{◌≡◌, ◌≢◌, ℕ, zero, suc, ◌+◌, ◌%◌, ◌<◌, List, [], ◌∷◌, slice_index, length}
 use Rattle.key_directory.specs.declared.layout.Region.{Region}
 
 -- The words of a region follow those of the regions before it. Word 0 belongs to no region, so the first one begins at 1

@@ -1,8 +1,8 @@
 //! The directory, and how it opens, answers a claim and closes.
-ghost use Rattle.std.specs.Prelude.{◌≡◌, ◌≢◌, ℕ, ◌+◌, ◌-◌, ◌%◌, ◌^◌, ◌<◌, ◌≤◌, ◌↔◌, [], ◌∷◌, ◌++◌, length, sum, All, IfOk, IfErr, IsErr, MatchResult, Some};
-ghost use Rattle.key_directory.specs.Words.{walk, OnlyBelow, capacity_of};
+ghost use Rattle.std.specs.Prelude.{◌≡◌, ◌≢◌, ℕ, ◌+◌, ◌-◌, ◌%◌, ◌^◌, ◌<◌, ◌≤◌, ◌↔◌, [], ◌∷◌, ◌++◌, length, sum, All, IfOk, IfErr, IsErr, OnErr, Some};
+ghost use Rattle.key_directory.specs.Words.{OnlyBelow, capacity_of, IsPosition};
 ghost use Rattle.key_directory.specs.declared.view.Step.TheVariants.{Load};
-ghost use Rattle.key_directory.specs.Directory.{claim_of, Claimed, FoundOther, steps_since, Visits, key_held, HoldsEachOnce};
+ghost use Rattle.key_directory.specs.Directory.{claim_of, Claimed, steps_since, IsReached, AreAllOthers, Walks, key_held, HoldsEachOnce};
 
 use crate::key_list::KeyList;
 use crate::key_test::KeyTest;
@@ -81,22 +81,23 @@ impl<K: KeyTest> Directory<K> {
         ensures same_pass { (pass.new.directory ≡ pass.old.directory) × (pass.new.callers ≡ pass.old.callers) × (pass.new.room ≡ pass.old.room) }
         ensures trail { pass.new.trail ≡ pass.old.trail ++ steps_since pass.old pass.new }
 
-        // The position is the key's and no other key's.
-        ensures position { IfOk result (λ position. (position < capacity_of self.now.capacities region) × (pass.new.claims ≡ pass.old.claims ++ claim_of region key position ∷ [])) }
+        // The position is the key's from now on, and no other key's.
+        ensures position { IfOk result (λ position. position < capacity_of self.now.capacities region) }
+        ensures claimed { IfOk result (λ position. pass.new.claims ≡ pass.old.claims ++ claim_of region key position ∷ []) }
         ensures same { IfOk result (λ position. (other : ℕ) → Claimed pass.old.claims region key other → other ≡ position) }
         ensures other { IfOk result (λ position. (other : ℕ) → Claimed pass.old.claims region other position → other ≡ key) }
-        ensures first { IfOk result (λ position. (tries : ℕ) × (tries < capacity_of self.now.capacities region) × (walk (capacity_of self.now.capacities region) key tries ≡ position)
-            × ((n : ℕ) → n < tries → FoundOther (steps_since pass.old pass.new) region (walk (capacity_of self.now.capacities region) key n) key)) }
+        ensures first { IfOk result (λ position. IsReached self.now.capacities (steps_since pass.old pass.new) (claim_of region key position)) }
         ensures own_number { OnlyBelow K.passes (capacity_of self.now.capacities region) → result ≡ Ok key }
 
-        ensures full { IsErr result ↔ ((position : ℕ) → position < capacity_of self.now.capacities region → FoundOther (steps_since pass.old pass.new) region position key) }
-        ensures err { IfErr result (λ full. (full.capacity ≡ capacity_of self.now.capacities region) × (pass.new.claims ≡ pass.old.claims)) }
+        // A refusal changes no claim.
+        ensures full { IsErr result ↔ AreAllOthers self.now.capacities (steps_since pass.old pass.new) region key }
+        ensures capacity { IfErr result (λ full. full.capacity ≡ capacity_of self.now.capacities region) }
+        ensures err { OnErr result (pass.new.claims ≡ pass.old.claims) }
 
-        // One load a position and at most one compare-exchange; a key that the pass claimed at its first position costs one load.
-        ensures steps { (tries : ℕ) × Visits region (capacity_of self.now.capacities region) key tries (steps_since pass.old pass.new)
-            × MatchResult result (λ position. (tries ≤ capacity_of self.now.capacities region) × (0 < tries) × (walk (capacity_of self.now.capacities region) key (tries - 1) ≡ position)) (λ _. tries ≡ capacity_of self.now.capacities region) }
-        ensures quick { 0 < capacity_of self.now.capacities region → let first = walk (capacity_of self.now.capacities region) key 0 in
-            Claimed pass.old.claims region key first → steps_since pass.old pass.new ≡ Load region first (key + 1) ∷ [] }
+        // One load a position and at most one compare-exchange. Where the pass claimed the key at its first position, one load.
+        ensures steps { Walks self.now.capacities region key (steps_since pass.old pass.new) result }
+        ensures quick { let first = key % capacity_of self.now.capacities region in Claimed pass.old.claims region key first
+            → steps_since pass.old pass.new ≡ Load region first (key + 1) ∷ [] }
     {
         let place = self.layout.regions[region as usize];
         find_place(&self.table.shared, &mut pass.seat, region, place, key).ok_or(KeysFull {
@@ -110,6 +111,8 @@ impl<K: KeyTest> Directory<K> {
         requires sole { pass.callers ≡ self.callers }
         ensures capacities { result.capacities ≡ self.capacities }
         ensures held { (region key position : ℕ) → Claimed pass.claims region key position → key_held result region position ≡ Some key }
+        ensures no_other { (region key position : ℕ) → IsPosition self.capacities region position → key_held result region position ≡ Some key
+            → Claimed pass.claims region key position }
         ensures each_once { HoldsEachOnce K.passes result }
     {
         let Directory { table, layout } = self;

@@ -2,8 +2,8 @@
 ghost use Rattle.std.specs.Prelude.{◌≡◌, ◌≢◌, ℕ, true, false, ◌+◌, ◌-◌, ◌*◌, ◌%◌, ◌^◌, ◌<◌, ◌≤◌, ◌++◌, [], ◌∷◌, List, length, sum, Contains, MatchOption, MatchBool};
 ghost use Rattle.key_directory.specs.Words.{capacities_of, capacity_of, word_number, start_from, walk, IsPosition};
 ghost use Rattle.key_directory.specs.Moves.{Knows};
-ghost use Rattle.key_directory.specs.Directory.{FoundOther, claim_of};
-ghost use Rattle.key_directory.specs.Visits.{Visited, Walked, IsReached};
+ghost use Rattle.key_directory.specs.Directory.{IsReached};
+ghost use Rattle.key_directory.specs.Visits.{Visited, Walked};
 
 use crate::key_test::KeyTest;
 use crate::layout::Region;

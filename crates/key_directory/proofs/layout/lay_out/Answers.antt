@@ -1,6 +1,5 @@
 use Rattle.std.proofs.Common.{arith, ◌≡◌, ◌+◌, sum, take, ℕ, List, [], ◌∷◌, ◌++◌, sym, ◌∙◌, get_or}
 use Rattle.std.proofs.lemmas.List.Sums.{sum_by_more}
-use Rattle.key_directory.specs.declared.layout.Region.{Region}
 use Rattle.key_directory.specs.Words.{laid_out}
 use Rattle.key_directory.proofs.Places.{laid_step}
 use Rattle.key_directory.proofs.layout.lay_out.Goals as goal

@@ -1,4 +1,4 @@
-use Rattle.std.proofs.Common.{rules, arith, ◌≡◌, ℕ, ◌+◌, ◌<◌, sym, ◌∙◌, subst, ap}
+use Rattle.std.proofs.Common.{arith, ◌∙◌, ap}
 use Rattle.atomic_table.specs.Table.{Me}
 use Rattle.key_directory.specs.declared.view.View.{View}
 use Rattle.key_directory.proofs.Steps.{meets}

@@ -1,4 +1,3 @@
-use Rattle.std.proofs.Common.{rules}
 use Rattle.key_directory.proofs.Ends.{splits}
 use Rattle.key_directory.proofs.seats.split_off.Goals as goal
 

@@ -1,11 +1,10 @@
-use Rattle.std.proofs.Common.{rules, arith, ◌≡◌, ℕ, suc, true, false, ◌+◌, ◌%◌, ◌<◌, ◌≤◌, List, sum, Some, sym, refl, ap, ◌∙◌, subst, Bool}
+use Rattle.std.proofs.Common.{arith, ◌≡◌, ℕ, suc, true, false, ◌+◌, Some, sym, ◌∙◌, subst, Bool}
 use Rattle.std.proofs.Math.Nat.{mod-add-mod}
-use Rattle.key_directory.specs.declared.view.View.{View}
-use Rattle.key_directory.specs.Words.{capacities_of, walk, IsPosition}
+use Rattle.key_directory.specs.Words.{capacities_of, walk}
 use Rattle.key_directory.specs.Directory.{claim_of}
 use Rattle.key_directory.specs.Visits.{Passed, Visited, Walked}
 use Rattle.key_directory.proofs.Places.{start_end}
-use Rattle.key_directory.proofs.Walking.{start, passed_more, passed_reached, walk_ends, walk_fails}
+use Rattle.key_directory.proofs.Walking.{passed_more, passed_reached, walk_ends, walk_fails}
 use Rattle.key_directory.proofs.walk.find_place.Goals as goal
 
 pub overflow_add-start : goal.overflow_add-start

@@ -1,12 +1,10 @@
-use Rattle.std.proofs.Common.{rules, arith, ◌≡◌, ◌≢◌, ℕ, ◌+◌, ◌<◌, ◌⊎◌, inl, inr, sym, refl, ap, ◌∙◌, subst, Bool, true, false, eqb, eq-eqb, ne_eqb, [], ◌∷◌}
-use mathlib.Core.Logic.{dite}
-use native.Mathlib.Decide.{ℕ_discrete}
+use Rattle.std.proofs.Common.{arith, ◌≡◌, ◌<◌, sym, ◌∙◌, subst}
 use Rattle.key_directory.specs.declared.view.Claim.{Claim}
 use Rattle.key_directory.specs.declared.view.View.{View}
 use Rattle.key_directory.specs.declared.view.Step.TheVariants.{Load}
 use Rattle.key_directory.specs.Words.{capacities_of}
 use Rattle.key_directory.specs.Moves.{LoadTold, ExchangeTold, with_step}
-use Rattle.key_directory.specs.Visits.{Visited, IsReached}
+use Rattle.key_directory.specs.Directory.{IsReached}
 use Rattle.key_directory.proofs.Places.{word_inside}
 use Rattle.key_directory.proofs.Steps.{loads, exchanges}
 use Rattle.key_directory.proofs.Visiting.{after_load, after_free, after_taken, reached_more}

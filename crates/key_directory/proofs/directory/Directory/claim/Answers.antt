@@ -1,8 +1,8 @@
-use Rattle.std.proofs.Common.{rules, arith, ◌≡◌, ℕ, ◌+◌, ◌<◌, ◌≤◌, ◌^◌, List, length, sum, sym, refl, ap, ◌∙◌, subst, Option, Result, ok_or, vec_len, get_or}
+use Rattle.std.proofs.Common.{arith, ◌≡◌, ℕ, ◌+◌, ◌<◌, ◌≤◌, ◌^◌, List, length, sum, sym, ap, ◌∙◌, subst, Result, ok_or}
 use Rattle.key_directory.specs.declared.layout.Region.{Region}
 use Rattle.key_directory.specs.declared.view.View.{View}
 use Rattle.key_directory.specs.declared.directory.KeysFull.{KeysFull}
-use Rattle.key_directory.specs.Words.{capacities_of, capacity_of, laid_out, start_from, OnlyBelow}
+use Rattle.key_directory.specs.Words.{capacities_of, capacity_of, start_from}
 use Rattle.key_directory.specs.Directory.{DirectoryView, PassView}
 use Rattle.key_directory.specs.Layouts.{pass_view}
 use Rattle.key_directory.specs.Visits.{Walked}
@@ -32,22 +32,27 @@ find_place-requires-clause-allowed g c = let cs : List ℕ = capacities_of c.sel
     let e : c.index-place.result.now.capacity ≡ capacity_of c.args.self.now.capacities c.args.region = x.1 ∙ ap (λ (z : DirectoryView). capacity_of z.capacities c.args.region) c.self.view_is in
     subst (λ (z : ℕ). g.K.KeyTest.passes z c.args.key) (sym e) c.requires.passes
 
-all : (g : given.Over) (c : goal.After-ok_or g) → Told g.K.KeyTest.passes (capacity_of c.args.self.now.capacities c.args.region) c.args.region c.args.key c.args.pass.now (pass_view c.find_place.new.place.table_id c.find_place.new.place.me.0 c.pass.inside.room) c.ok_or.result
+all : (g : given.Over) (c : goal.After-ok_or g) → Told g.K.KeyTest.passes c.args.self.now.capacities c.args.region c.args.key c.args.pass.now (pass_view c.find_place.new.place.table_id c.find_place.new.place.me.0 c.pass.inside.room) c.ok_or.result
 all g c = let passes : ℕ → ℕ → Type 0 = g.K.KeyTest.passes in let r : ℕ = c.args.region in let k : ℕ = c.args.key in let v : View = c.pass.inside.seat.me.0 in let w : View = c.find_place.new.place.me.0 in
     let cs : List ℕ = c.args.self.now.capacities in let m : ℕ = c.index-place.result.now.capacity in
     let inside : r < length (capacities_of c.self.inside.layout.regions.items) = subst (λ (z : List ℕ). r < length z) (sym (ap (λ (z : DirectoryView). z.capacities) c.self.view_is)) c.requires.region in
     let cap : m ≡ capacity_of cs r = (region_at c.self.inside.layout.regions.items r c.index-place.result.now c.self.invariant.regions inside c.index-place.ensures).1 ∙ ap (λ (z : DirectoryView). capacity_of z.capacities r) c.self.view_is in
-    let shape_is : v.capacities ≡ cs = ap (λ (z : PassView). z.directory.capacities) c.pass.view_is ∙ ap (λ (z : DirectoryView). z.capacities) c.requires.directory in
+    let seen : List ℕ = c.args.pass.now.directory.capacities in let mine : v.capacities ≡ seen = ap (λ (z : PassView). z.directory.capacities) c.pass.view_is in let theirs : seen ≡ cs = ap (λ (z : DirectoryView). z.capacities) c.requires.directory in
+    let shape_is : v.capacities ≡ cs = ◌∙◌ {b = seen} mine theirs in
     let there : r < length v.capacities = subst (λ (z : List ℕ). r < length z) (sym shape_is) c.requires.region in
     let ok : passes (capacity_of v.capacities r) k = subst (λ (z : List ℕ). passes (capacity_of z r) k) (sym shape_is) c.requires.passes in
     let here : m ≡ capacity_of v.capacities r = cap ∙ sym (ap (λ (z : List ℕ). capacity_of z r) shape_is) in
     let walked : Walked r (capacity_of v.capacities r) k c.find_place.result v w = subst (λ (z : ℕ). Walked r z k c.find_place.result v w) here c.find_place.ensures.walked in
-    let answer : ok_or c.find_place.result record { capacity = capacity_of v.capacities r } ≡ c.ok_or.result = ap (λ (z : ℕ). ok_or c.find_place.result record { capacity = z }) (sym here) ∙ sym c.ok_or.ensures.value in
-    subst (λ (z : ℕ × PassView × Result ℕ KeysFull). Told passes z.0 r k z.1 (pass_view c.find_place.new.place.table_id w c.pass.inside.room) z.2) (λ i. (capacity_of (shape_is i) r, c.pass.view_is i, answer i))
+    let told_of : ℕ → Result ℕ KeysFull = λ z. ok_or c.find_place.result record { capacity = z } in let moved : told_of (capacity_of v.capacities r) ≡ told_of m = ap told_of (sym here) in let given : c.ok_or.result ≡ told_of m = c.ok_or.ensures.value in
+    let answer : told_of (capacity_of v.capacities r) ≡ c.ok_or.result = ◌∙◌ {b = told_of m} moved (sym given) in
+    subst (λ (z : List ℕ × PassView × Result ℕ KeysFull). Told passes z.0 r k z.1 (pass_view c.find_place.new.place.table_id w c.pass.inside.room) z.2) (λ i. (shape_is i, c.pass.view_is i, answer i))
     (told passes r k v w c.pass.inside.seat.table_id c.find_place.new.place.table_id c.pass.inside.room c.pass.inside.room there ok c.find_place.ensures.knows c.find_place.result walked)
 
 pub returns-clause-position : goal.returns-clause-position
 returns-clause-position g c = (all g c).position
+
+pub returns-clause-claimed : goal.returns-clause-claimed
+returns-clause-claimed g c = (all g c).claimed
 
 pub returns-clause-same : goal.returns-clause-same
 returns-clause-same g c = (all g c).same
@@ -63,6 +68,9 @@ returns-clause-own_number g c = (all g c).own_number
 
 pub returns-clause-full : goal.returns-clause-full
 returns-clause-full g c = (all g c).full
+
+pub returns-clause-capacity : goal.returns-clause-capacity
+returns-clause-capacity g c = (all g c).capacity
 
 pub returns-clause-err : goal.returns-clause-err
 returns-clause-err g c = (all g c).err

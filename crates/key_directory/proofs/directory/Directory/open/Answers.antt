@@ -1,11 +1,10 @@
-use Rattle.std.proofs.Common.{rules, arith, ◌≡◌, ℕ, ◌+◌, ◌^◌, ◌<◌, ◌≤◌, List, [], length, sum, sym, refl, ap, ◌∙◌, subst, replicate}
+use Rattle.std.proofs.Common.{arith, ◌≡◌, ℕ, ◌+◌, List, [], sum, sym, refl, ap, ◌∙◌, subst, replicate}
 use Rattle.atomic_table.specs.Table.{opening, Me}
 use Rattle.key_directory.specs.declared.layout.Layout.{Layout}
 use Rattle.key_directory.specs.declared.view.View.{View}
 use Rattle.key_directory.specs.Words.{laid_out, capacities_of}
 use Rattle.key_directory.specs.Rule.{Rule, newcomer}
-use Rattle.key_directory.specs.Moves.{Knows}
-use Rattle.key_directory.specs.Layouts.{IsLaidOut, IsPass}
+use Rattle.key_directory.specs.Layouts.{IsPass}
 use Rattle.key_directory.proofs.Places.{laid_capacities}
 use Rattle.key_directory.proofs.Ends.{starts, start_knows}
 use Rattle.key_directory.proofs.directory.Directory.open.Goals as goal

@@ -1,7 +1,6 @@
-use Rattle.std.proofs.Common.{rules, arith, ◌≡◌, ℕ, ◌<◌, ◌+◌, ◌-◌, List, length, sum, sym, ap, ◌∙◌, subst, get_or}
+use Rattle.std.proofs.Common.{arith, ◌≡◌, ℕ, ◌+◌, List, length, sym, ap, ◌∙◌, subst, get_or}
 use Rattle.std.specs.Mem.Slots.{slots_items}
-use Rattle.key_directory.specs.declared.layout.Region.{Region}
-use Rattle.key_directory.specs.Words.{capacities_of, capacity_of, start_from, IsPosition, word_number}
+use Rattle.key_directory.specs.Words.{capacities_of, IsPosition, word_number}
 use Rattle.key_directory.specs.Directory.{KeyListView, key_in, key_held}
 use Rattle.key_directory.proofs.Places.{region_at, capacities_length, word_inside}
 use Rattle.key_directory.proofs.Closing.{key_of, at_get}

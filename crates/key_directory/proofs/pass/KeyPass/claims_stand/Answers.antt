@@ -1,4 +1,3 @@
-use Rattle.std.proofs.Common.{rules}
 use Rattle.key_directory.proofs.Claims.{one_to_one}
 use Rattle.key_directory.proofs.pass.KeyPass.claims_stand.Goals as goal
 

@@ -1,8 +1,7 @@
-use Rattle.std.proofs.Common.{arith, ◌≡◌, ℕ, ◌-◌, ◌<◌, ap, sym, ◌∙◌, subst}
+use Rattle.std.proofs.Common.{arith, ◌≡◌, ℕ, ◌-◌, ap, sym, subst}
 use Rattle.atomic_table.specs.Table.{Me}
 use Rattle.key_directory.specs.declared.view.View.{View}
 use Rattle.key_directory.specs.Directory.{PassView}
-use Rattle.key_directory.specs.Moves.{Knows, kept_part}
 use Rattle.key_directory.specs.Layouts.{IsPass}
 use Rattle.key_directory.proofs.Ends.{part_knows}
 use Rattle.key_directory.proofs.pass.KeyPass.split.Goals as goal
