@@ -1,0 +1,2 @@
+//! What the rules find in a capture, as definitions (in `specs/`).
+#![tactic(auto)]
