@@ -2,6 +2,7 @@ pub mod Answers
 pub mod Exists
 pub mod Filters
 pub mod Places
+pub mod PlanGroups
 pub mod PlanLaw
 pub mod PlanSound
 pub mod PlanTasks
