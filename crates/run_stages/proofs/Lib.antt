@@ -11,3 +11,5 @@ pub mod Finishing
 pub mod Bounds
 pub mod Worked
 pub mod Batches
+pub mod FromTasks
+pub mod FromCapture

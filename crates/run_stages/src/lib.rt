@@ -2,4 +2,5 @@
 //! stand between records.
 #![tactic(auto)]
 
+pub mod from_capture;
 pub mod laws;
