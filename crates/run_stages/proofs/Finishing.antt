@@ -38,7 +38,7 @@ same_values w (x ∷ xs) ys e =
     subst (λ (z : List ℕ). IsPermutation (v ++ values_of w xs) z) (sym whole) (IsPermutation-trans (v ++ values_of w xs) (v ++ (b ++ c)) (b ++ (v ++ c)) first second)
 
 -- each number is a task's item or a group's
-item_cases : (x : ℕ) → ((i : ℕ) × (x ≡ task_item i)) ⊎ ((h : ℕ) × (x ≡ group_item h))
+pub item_cases : (x : ℕ) → ((i : ℕ) × (x ≡ task_item i)) ⊎ ((h : ℕ) × (x ≡ group_item h))
 item_cases x = dite (ℕ_discrete (x % 2) 0) (λ e. inl (x / 2, omega arith)) (λ e. inr (x / 2, omega arith))
 
 zero_or : (x : ℕ) → (0 < x → ⊥) → x ≡ 0

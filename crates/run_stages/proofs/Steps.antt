@@ -22,7 +22,7 @@ use Rattle.run_stages.proofs.Filling.{filled}
 use Rattle.run_stages.proofs.Runs.{found_same, found_value, first_value, appends_run, gives_run, ready_run, walk_run, with_links}
 
 -- a chain's word shows its head
-chain_head : (w : Work) (c : List ℕ) (x : ℕ) → chain_word w c ≡ Some x → (j : ℕ) × (js : List ℕ) × (c ≡ j ∷ js) × (x ≡ group_word j (chain_bytes w (j ∷ js)) (chain_total w (j ∷ js)))
+pub chain_head : (w : Work) (c : List ℕ) (x : ℕ) → chain_word w c ≡ Some x → (j : ℕ) × (js : List ℕ) × (c ≡ j ∷ js) × (x ≡ group_word j (chain_bytes w (j ∷ js)) (chain_total w (j ∷ js)))
 chain_head w [] x e = absurd (cc)
 chain_head w (j ∷ js) x e = let y : x ≡ group_word j (chain_bytes w (j ∷ js)) (chain_total w (j ∷ js)) = cc in (j, js, refl, y)
 
