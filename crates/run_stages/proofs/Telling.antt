@@ -10,22 +10,21 @@ use Rattle.serial_terms.specs.Histories.{Runs}
 use Rattle.serial_terms.specs.Serial.{State, found, first, rest, put_map, put_queue}
 use Rattle.serial_terms.proofs.Basics.{with_at_other, if_true, if_false}
 use Rattle.serial_terms.proofs.Pools.{times_append}
-use Rattle.run_stages.specs.Work.{Work, IsPlan, IsWhole, IsMember, IsComplete, total_below, task_item, group_item, group_word, item_values, values_of, head_of}
+use Rattle.run_stages.specs.Work.{Work, IsSoundWork, IsWhole, IsMember, IsComplete, total_below, task_item, group_item, group_word, item_values, values_of, head_of}
 use Rattle.run_stages.specs.Allowed.{walk}
 use Rattle.run_stages.specs.Ends.{AreAllDatagrams, all_tasks_taken, all_items_taken}
 use Rattle.run_stages.specs.Stages.{AllAdded, IsLawful, LeadThrough, chain_bytes, chain_total, chain_word}
 use Rattle.run_stages.specs.Told.{walked, TakenIsTask, QueuedIsDatagram, AddedWordFits, WalkStaysInGroup, WalkFindsGroup, LogIsPartOfAll, OneCallerTakesLess}
 use Rattle.run_stages.proofs.Counting.{total_le, total_times, times_cons_same, times_cons_other}
 use Rattle.run_stages.proofs.Taking.{some_held}
-use Rattle.run_stages.proofs.Chains.{word_head, bytes_le, total_short}
-use Rattle.run_stages.proofs.Adding.{chain_members, chain_once, bytes_now, total_now, more_members, more_once}
+use Rattle.run_stages.proofs.Chains.{bytes_le, total_short}
+use Rattle.run_stages.proofs.Adding.{heads, chain_members, chain_once, bytes_now, total_now, more_members, more_once}
 use Rattle.run_stages.proofs.Finishing.{around, item_cases}
 use Rattle.run_stages.proofs.Matching.{values_append, lead_same}
 use Rattle.run_stages.proofs.Runs.{found_same, found_value, first_value}
-use Rattle.run_stages.proofs.Steps.{chain_head}
 
 pub taken_task : TakenIsTask
-taken_task w s l i there = let h = some_held w (s.cells 0) (s.pools 0) (s.queues 0) (s.maps 0) (s.maps 1) (s.logs 0).items l.matched l.chain l.stages i there in
+taken_task w s l i there = let h = some_held l.stages i there in
     let f = l.stages.fits in let c = l.stages.capacity in (l.stages.pooled i there, omega arith)
 
 -- the first item of the queue is in it
@@ -54,26 +53,17 @@ module _ (w : Work) (s : State) (l : IsLawful w s) where
 pub queued_datagram : QueuedIsDatagram
 queued_datagram w s l x e = queued w s l x e
 
--- a group's word shows the head of its chain
-heads : (w : Work) → IsPlan w → (s : State) (l : IsLawful w s) (h x : ℕ) → s.maps 0 h ≡ Some x → (js : List ℕ) × (l.chain h ≡ head_of x ∷ js)
-heads w p s l h x e =
-    let c = chain_head w (l.chain h) x (sym (l.stages.word h) ∙ e) in
-    let members : (j : ℕ) → 0 < times j (c.0 ∷ c.1) → IsMember w h j = λ j y. chain_members w (s.cells 0) (s.pools 0) (s.queues 0) (s.maps 0) (s.maps 1) (s.logs 0).items l.matched l.chain l.stages h j (let b = ap (times j) c.2 in omega arith) in
-    let once : (j : ℕ) → times j (c.0 ∷ c.1) ≤ 1 = λ j. (let o = chain_once w (s.cells 0) (s.pools 0) (s.queues 0) (s.maps 0) (s.maps 1) (s.logs 0).items l.matched l.chain l.stages h j in let b = ap (times j) c.2 in omega arith) in
-    let head : head_of x ≡ c.0 = ap head_of c.3 ∙ word_head c.0 (chain_bytes w (c.0 ∷ c.1)) (chain_total w (c.0 ∷ c.1)) (let b = bytes_le w h (c.0 ∷ c.1) members once in let k = p.bounded h in omega arith) (total_short w p h (c.0 ∷ c.1) members) in
-    (c.1, c.2 ∙ ap (λ (z : ℕ). z ∷ c.1) (sym head))
-
 pub word_fits : AddedWordFits
 word_fits w p s l h i m there =
-    let b = bytes_now w (s.cells 0) (s.pools 0) (s.queues 0) (s.maps 0) (s.maps 1) (s.logs 0).items l.matched l.chain l.stages p h i m there in
-    let t = total_now w (s.cells 0) (s.pools 0) (s.queues 0) (s.maps 0) (s.maps 1) (s.logs 0).items l.matched l.chain l.stages p h i m there in
-    let members = more_members w (s.cells 0) (s.pools 0) (s.queues 0) (s.maps 0) (s.maps 1) (s.logs 0).items l.matched l.chain l.stages p h i m there in
-    let once = more_once w (s.cells 0) (s.pools 0) (s.queues 0) (s.maps 0) (s.maps 1) (s.logs 0).items l.matched l.chain l.stages p h i m there in
+    let b = bytes_now l.stages p h i m there in
+    let t = total_now l.stages p h i m there in
+    let members = more_members l.stages p h i m there in
+    let once = more_once l.stages p h i m there in
     let c = bytes_le w h (i ∷ l.chain h) members once in let k = p.bounded h in let u = total_short w p h (i ∷ l.chain h) members in (
       omega arith,
       omega arith,
-      λ x e. let q = heads w p s l h x e in let a = ap (times (head_of x)) q.1 in let d = times_cons_same (head_of x) (head_of x) q.0 refl in
-          chain_members w (s.cells 0) (s.pools 0) (s.queues 0) (s.maps 0) (s.maps 1) (s.logs 0).items l.matched l.chain l.stages h (head_of x) (omega arith),
+      λ x e. let q = heads l.stages p h x e in let a = ap (times (head_of x)) q.1 in let d = times_cons_same (head_of x) (head_of x) q.0 refl in
+          chain_members l.stages h (head_of x) (omega arith),
     )
 
 -- ---- walks
@@ -111,15 +101,15 @@ walk_ends w (j ∷ js) i (k ∷ ks) s t l o r =
     more_times : (x i : ℕ) (is : List ℕ) → times x is ≤ times x (i ∷ is)
     more_times x i is = dite (ℕ_discrete x i) (λ e. let a = times_cons_same x i is e in omega arith) (λ e. let a = times_cons_other x i is e in omega arith)
 
-module _ (w : Work) (p : IsPlan w) (s : State) (l : IsLawful w s) (h x : ℕ) (e : s.maps 0 h ≡ Some x) where
-  on_chain_once : (j : ℕ) → times j (head_of x ∷ (heads w p s l h x e).0) ≤ 1
-  on_chain_once j = let o = chain_once w (s.cells 0) (s.pools 0) (s.queues 0) (s.maps 0) (s.maps 1) (s.logs 0).items l.matched l.chain l.stages h j in let b = ap (times j) (heads w p s l h x e).1 in omega arith
+module _ (w : Work) (p : IsSoundWork w) (s : State) (l : IsLawful w s) (h x : ℕ) (e : s.maps 0 h ≡ Some x) where
+  on_chain_once : (j : ℕ) → times j (head_of x ∷ (heads l.stages p h x e).0) ≤ 1
+  on_chain_once j = let o = chain_once l.stages h j in let b = ap (times j) (heads l.stages p h x e).1 in omega arith
 
-  on_chain_member : (j : ℕ) → 0 < times j (head_of x ∷ (heads w p s l h x e).0) → IsMember w h j
-  on_chain_member j y = chain_members w (s.cells 0) (s.pools 0) (s.queues 0) (s.maps 0) (s.maps 1) (s.logs 0).items l.matched l.chain l.stages h j (let b = ap (times j) (heads w p s l h x e).1 in omega arith)
+  on_chain_member : (j : ℕ) → 0 < times j (head_of x ∷ (heads l.stages p h x e).0) → IsMember w h j
+  on_chain_member j y = chain_members l.stages h j (let b = ap (times j) (heads l.stages p h x e).1 in omega arith)
 
-  leads : LeadThrough w (s.maps 1) (head_of x ∷ (heads w p s l h x e).0)
-  leads = subst (LeadThrough w (s.maps 1)) (heads w p s l h x e).1 (l.stages.lead h)
+  leads : LeadThrough w (s.maps 1) (head_of x ∷ (heads l.stages p h x e).0)
+  leads = subst (LeadThrough w (s.maps 1)) (heads l.stages p h x e).1 (l.stages.lead h)
 
 -- a list whose numbers are below n, each once, has at most n
 at_most : (n : ℕ) (xs : List ℕ) → ((i : ℕ) → times i xs ≤ 1) → ((i : ℕ) → 0 < times i xs → i < n) → length xs ≤ n
@@ -134,7 +124,7 @@ begin i j before later = omega (arith, times_append i before later)
 
 pub walk_inside : WalkStaysInGroup
 walk_inside w p s t l h x before r =
-    let e = found_value x (s.maps 0 h) r.1.0 in let c = heads w p s l h x e in
+    let e = found_value x (s.maps 0 h) r.1.0 in let c = heads l.stages p h x e in
     let f = walk_follows w c.0 (head_of x) before (put_map (put_queue s 0 (rest (s.queues 0).items)) 0 h None) t (leads w p s l h x e) (on_chain_once w p s l h x e) r.1.1.1 in
     let le : (i : ℕ) → times i (head_of x ∷ before) ≤ times i (head_of x ∷ c.0) = λ i. (let a = begin i (head_of x) before f.0 in let b = ap (λ (z : List ℕ). times i (head_of x ∷ z)) f.1 in omega arith) in
     let once : (i : ℕ) → times i (head_of x ∷ before) ≤ 1 = λ i. (let a = le i in let b = on_chain_once w p s l h x e i in omega arith) in
@@ -143,11 +133,11 @@ walk_inside w p s t l h x before r =
 
 pub walk_whole : WalkFindsGroup
 walk_whole w p s t l h x before r =
-    let e = found_value x (s.maps 0 h) r.1.0 in let c = heads w p s l h x e in
+    let e = found_value x (s.maps 0 h) r.1.0 in let c = heads l.stages p h x e in
     let f = walk_ends w c.0 (head_of x) before (put_map (put_queue s 0 (rest (s.queues 0).items)) 0 h None) t (leads w p s l h x e) (on_chain_once w p s l h x e) r.1.1.1 in
     let q = queued_chain w s l h (in_queue (group_item h) (s.queues 0).items r.0) in
     let same : (i : ℕ) → times i (head_of x ∷ before) ≡ times i (l.chain h) = λ i. (let a = ap (λ (z : List ℕ). times i (head_of x ∷ z)) f in let b = ap (times i) c.1 in omega arith) in
-    (q.0, (λ i m. same i ∙ q.2 i m), λ i m. chain_members w (s.cells 0) (s.pools 0) (s.queues 0) (s.maps 0) (s.maps 1) (s.logs 0).items l.matched l.chain l.stages h i (let a = same i in omega arith))
+    (q.0, (λ i m. same i ∙ q.2 i m), λ i m. chain_members l.stages h i (let a = same i in omega arith))
 
 -- ---- the log
 

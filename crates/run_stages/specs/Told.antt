@@ -7,7 +7,7 @@ use Rattle.serial_terms.specs.Counts.{times}
 use Rattle.serial_terms.specs.Entries.{Entry, by_caller}
 use Rattle.serial_terms.specs.Histories.{Runs}
 use Rattle.serial_terms.specs.Serial.{State, first, outside}
-use Rattle.run_stages.specs.Work.{Work, IsPlan, IsWhole, IsMember, IsComplete, given_count, task_item, group_item, item_values, values_of, head_of}
+use Rattle.run_stages.specs.Work.{Work, IsSoundWork, IsWhole, IsMember, IsComplete, given_count, task_item, group_item, item_values, values_of, head_of}
 use Rattle.run_stages.specs.Allowed.{new_bytes, new_total, walk}
 use Rattle.run_stages.specs.Ends.{AreAllDatagrams, all_tasks_taken, all_items_taken}
 use Rattle.run_stages.specs.Stages.{IsLawful}
@@ -28,18 +28,18 @@ QueuedIsDatagram = (w : Work) (s : State) → IsLawful w s → (x : ℕ) → Val
 
 -- the word of a group to which a task of the pool is added has its parts below 2^16, and its old head is a task of the group
 abbrev pub AddedWordFits : Type 0
-AddedWordFits = (w : Work) → IsPlan w → (s : State) → IsLawful w s → (h i : ℕ) → IsMember w h i → 0 < (s.pools 0).count i
+AddedWordFits = (w : Work) → IsSoundWork w → (s : State) → IsLawful w s → (h i : ℕ) → IsMember w h i → 0 < (s.pools 0).count i
     → (new_bytes w i (s.maps 0 h) < 2 ^ 16) × (new_total w i (s.maps 0 h) < 2 ^ 16) × ((x : ℕ) → s.maps 0 h ≡ Some x → IsMember w h (head_of x))
 
 -- a walk goes through tasks of the group, each once, so through no more than there are tasks
 abbrev pub WalkStaysInGroup : Type 0
-WalkStaysInGroup = (w : Work) → IsPlan w → (s t : State) → IsLawful w s → (h x : ℕ) (before : List ℕ)
+WalkStaysInGroup = (w : Work) → IsSoundWork w → (s t : State) → IsLawful w s → (h x : ℕ) (before : List ℕ)
     → Runs s (outside (Dequeue 0) (Value (group_item h)) ∷ outside (MapGet 0 h) (Value x) ∷ outside (MapRemove 0 h) Nothing ∷ walked (head_of x) before) t
     → ((i : ℕ) → times i (head_of x ∷ before) ≤ 1) × ((i : ℕ) → 0 < times i (head_of x ∷ before) → IsMember w h i) × (length (head_of x ∷ before) ≤ length w.tasks)
 
 -- and where it ends, through all tasks of the group, which is complete
 abbrev pub WalkFindsGroup : Type 0
-WalkFindsGroup = (w : Work) → IsPlan w → (s t : State) → IsLawful w s → (h x : ℕ) (before : List ℕ)
+WalkFindsGroup = (w : Work) → IsSoundWork w → (s t : State) → IsLawful w s → (h x : ℕ) (before : List ℕ)
     → Runs s (outside (Dequeue 0) (Value (group_item h)) ∷ outside (MapGet 0 h) (Value x) ∷ outside (MapRemove 0 h) Nothing ∷ walk w (head_of x) before) t
     → IsComplete w h × ((i : ℕ) → IsMember w h i → times i (head_of x ∷ before) ≡ 1) × ((i : ℕ) → 0 < times i (head_of x ∷ before) → IsMember w h i)
 
