@@ -15,7 +15,7 @@ use Rattle.serial_terms.specs.Counts.{times}
 use Rattle.serial_terms.specs.Serial.{State}
 use Rattle.serial_terms.proofs.Basics.{append_nil, bool_cases}
 use Rattle.serial_terms.proofs.Pools.{times_append}
-use Rattle.run_stages.specs.Work.{Work, piece, task_item, group_item, item_values, values_of}
+use Rattle.run_stages.specs.Work.{Work, task, task_item, group_item, item_values, values_of}
 use Rattle.run_stages.specs.Stages.{IsLawful}
 use Rattle.run_stages.specs.Ends.{IsFinished, AreAllDatagrams}
 use Rattle.run_stages.specs.FromCapture.{whole_values, work_of}
@@ -235,7 +235,7 @@ module _ (rules : List Rule) (bytes : List ℕ) (tasks : List Task) (groups : Li
   abbrev some : Task
   some = nth rules bytes tasks groups 0
 
-  group_is : (i : ℕ) → i < length tasks → (piece work i).group ≡ (get_or tasks i some).group
+  group_is : (i : ℕ) → i < length tasks → (task work i).group ≡ (get_or tasks i some).group
   group_is i l = group_at rules bytes tasks groups i ∙ ap (λ (t : Task). t.group) (nth_is rules bytes tasks groups i some l)
 
   pub all_items : AllPairs IsBefore tasks → AreAllDatagrams work items

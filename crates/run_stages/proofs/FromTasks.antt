@@ -21,9 +21,9 @@ use Rattle.capture_terms.proofs.PlanLaw.{member_group}
 use Rattle.rule_terms.specs.Rule.{Rule}
 use Rattle.serial_terms.specs.Counts.{times}
 use Rattle.serial_terms.proofs.Basics.{bool_cases, true_or_false}
-use Rattle.run_stages.specs.Work.{Work, Piece, IsPlan, IsMember, IsComplete, piece, end_of, group_bytes, is_some_of, total_below}
+use Rattle.run_stages.specs.Work.{Work, TaskFacts, IsSoundWork, IsMember, IsComplete, task, end_of, group_bytes, is_some_of, total_below}
 use Rattle.run_stages.specs.Ends.{IsIncomplete}
-use Rattle.run_stages.specs.FromCapture.{piece_of, work_of}
+use Rattle.run_stages.specs.FromCapture.{facts_of, work_of}
 use Rattle.run_stages.proofs.Counting.{total_same, total_times}
 
 -- ---- sums over a list, and over the numbers of its places
@@ -85,15 +85,15 @@ module _ (rules : List Rule) (bytes : List ℕ) (tasks : List Task) (groups : Li
 
   pub long : length w.tasks ≡ length tasks
   unfolding work_of
-  long = length-map tasks piece_of
+  long = length-map tasks facts_of
 
   pub groups_are : w.groups ≡ length groups
   unfolding work_of
   groups_are = refl
 
-  pub piece_is : (i : ℕ) → piece w i ≡ piece_of (nth i)
+  pub facts_are : (i : ℕ) → task w i ≡ facts_of (nth i)
   unfolding work_of
-  piece_is i = get_or-map piece_of tasks i no_task
+  facts_are i = get_or-map facts_of tasks i no_task
 
   pub nth_is : (i : ℕ) (d : Task) → i < length tasks → nth i ≡ get_or tasks i d
   nth_is i d l = get_or_default tasks i no_task d l
@@ -101,17 +101,17 @@ module _ (rules : List Rule) (bytes : List ℕ) (tasks : List Task) (groups : Li
   pub below : (i : ℕ) → i < length w.tasks → i < length tasks
   below i l = let a = long in omega arith
 
-  pub group_at : (i : ℕ) → (piece w i).group ≡ (nth i).group
-  group_at i = ap (λ (p : Piece). p.group) (piece_is i)
+  pub group_at : (i : ℕ) → (task w i).group ≡ (nth i).group
+  group_at i = ap (λ (p : TaskFacts). p.group) (facts_are i)
 
-  size_at : (i : ℕ) → (piece w i).size ≡ (nth i).length
-  size_at i = ap (λ (p : Piece). p.size) (piece_is i)
+  size_at : (i : ℕ) → (task w i).size ≡ (nth i).length
+  size_at i = ap (λ (p : TaskFacts). p.size) (facts_are i)
 
   end_at : (i : ℕ) → end_of w i ≡ end_of_task (nth i)
-  end_at i = ap (λ (p : Piece). p.start + p.size) (piece_is i)
+  end_at i = ap (λ (p : TaskFacts). p.start + p.size) (facts_are i)
 
-  last_at : (i : ℕ) → (piece w i).last ≡ (nth i).last
-  last_at i = ap (λ (p : Piece). p.last) (piece_is i)
+  last_at : (i : ℕ) → (task w i).last ≡ (nth i).last
+  last_at i = ap (λ (p : TaskFacts). p.last) (facts_are i)
 
   is_of : (h i : ℕ) → IsMember w h i → (nth i).group ≡ Some h
   is_of h i m = sym (group_at i) ∙ m.belongs
@@ -126,20 +126,20 @@ module _ (rules : List Rule) (bytes : List ℕ) (tasks : List Task) (groups : Li
 
   pub bytes_are : (h : ℕ) → group_bytes w h ≡ size_of (members tasks h)
   bytes_are h =
-      total_same (λ i. if is_some_of (piece w i).group h then (piece w i).size else 0) (λ i. share h (nth i)) (length w.tasks) (λ i l. same i)
+      total_same (λ i. if is_some_of (task w i).group h then (task w i).size else 0) (λ i. share h (nth i)) (length w.tasks) (λ i l. same i)
       ∙ (ap (total_below (λ i. share h (nth i))) long ∙ (total_list (share h) no_task tasks ∙ sym (sum_filter (λ (t : Task). t.length) (is_member h) tasks)))
     where
       same_some : (o : Option ℕ) → is_some_of o h ≡ option_map_or (λ group. group == h) o false
       same_some None = refl
       same_some (Some k) = refl
 
-      same : (i : ℕ) → (if is_some_of (piece w i).group h then (piece w i).size else 0) ≡ share h (nth i)
-      same i = ap (λ (p : Piece). cond (is_some_of p.group h) p.size 0) (piece_is i) ∙ ap (λ (b : Bool). cond b (nth i).length 0) (same_some (nth i).group)
+      same : (i : ℕ) → (if is_some_of (task w i).group h then (task w i).size else 0) ≡ share h (nth i)
+      same i = ap (λ (p : TaskFacts). cond (is_some_of p.group h) p.size 0) (facts_are i) ∙ ap (λ (b : Bool). cond b (nth i).length 0) (same_some (nth i).group)
 
   -- ---- the work is a plan of a run
 
-  pub is_plan : AreGrouped tasks groups → IsPlan w
-  is_plan g = record {
+  pub is_sound : AreGrouped tasks groups → IsSoundWork w
+  is_sound g = record {
     numbered = λ h i m. let n = g.numbered i no_task (below i m.below) h (is_of h i m) in let a = groups_are in omega arith;
     inhabited = λ h l.
         let it = g.inhabited h (let a = groups_are in omega arith) in

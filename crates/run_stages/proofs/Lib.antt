@@ -13,3 +13,4 @@ pub mod Worked
 pub mod Batches
 pub mod FromTasks
 pub mod FromCapture
+pub mod Telling

@@ -12,13 +12,13 @@ use Rattle.rule_terms.specs.Rule.{Rule}
 use Rattle.inspection_terms.specs.Findings.{findings_in, all_findings, findings_of_capture}
 use Rattle.serial_terms.specs.Counts.{times}
 use Rattle.serial_terms.specs.Serial.{State}
-use Rattle.run_stages.specs.Work.{Work, Piece, IsPlan, values_of}
+use Rattle.run_stages.specs.Work.{Work, TaskFacts, IsSoundWork, values_of}
 use Rattle.run_stages.specs.Stages.{IsLawful}
 use Rattle.run_stages.specs.Ends.{IsFinished, AreAllDatagrams, IsIncomplete}
 
 -- what a run has of a task
-abbrev pub piece_of : Task → Piece
-piece_of task = record { group = task.group; start = task.start; size = task.length; last = task.last }
+abbrev pub facts_of : Task → TaskFacts
+facts_of task = record { group = task.group; start = task.start; size = task.length; last = task.last }
 
 -- the findings in the whole datagram that is the task of a number
 abbrev pub whole_values : List Rule → List ℕ → List Task → ℕ → List ℕ
@@ -27,7 +27,7 @@ whole_values rules bytes tasks number = option_map_or (λ task. findings_in rule
 -- the work of tasks in groups: what is to be found in a group is what is found in all its tasks together
 unfoldable pub work_of : List Rule → List ℕ → List Task → List Group → Work
 work_of rules bytes tasks groups = record {
-  tasks = map piece_of tasks;
+  tasks = map facts_of tasks;
   groups = length groups;
   task_values = whole_values rules bytes tasks;
   group_values = λ number. findings_in rules bytes (members tasks number);
@@ -38,7 +38,7 @@ work_of rules bytes tasks groups = record {
 -- the work of a capture's plan is a plan of a run
 abbrev pub PlansAreWork : Type 0
 PlansAreWork = (rules : List Rule) (bytes : List ℕ) (capture : Capture) (planned : Plan) → plan.IsClassifiable bytes capture → plan.IsPlan bytes capture planned
-    → IsPlan (work_of rules bytes planned.tasks.items planned.groups.items)
+    → IsSoundWork (work_of rules bytes planned.tasks.items planned.groups.items)
 
 -- tasks of frames that ascend: the values of all datagrams of the work are the findings in the datagrams of the tasks,
 -- in some order

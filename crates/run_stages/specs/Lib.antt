@@ -7,3 +7,4 @@ pub mod Laws
 pub mod Worked
 pub mod Batches
 pub mod FromCapture
+pub mod Told
