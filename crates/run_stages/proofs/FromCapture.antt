@@ -1,33 +1,32 @@
 -- The values of the work's datagrams are the findings in the datagrams of the tasks.
-use Rattle.std.proofs.Common.{◌≡◌, ◌≢◌, ◌⊎◌, ℕ, zero, suc, ◌+◌, ◌/◌, ◌%◌, ◌<◌, Bool, true, false, cond, List, [], ◌∷◌, ◌++◌, Option, None, Some, inl, inr, ⊎_elim, refl, sym, ◌∙◌, ap, subst, arith, length, get_or, eq-eqb, ne_eqb}
-use Rattle.std.specs.Prelude.{AllPairs, IsPermutation, slice_get, filter, filter_map, ◌&&◌, ◌==◌, count_by, if◌then◌else◌}
+use Rattle.std.proofs.Common.{◌≡◌, ◌≢◌, ℕ, zero, suc, ◌+◌, ◌<◌, Bool, true, false, cond, List, [], ◌∷◌, ◌++◌, Option, None, Some, inl, inr, ⊎_elim, refl, sym, ◌∙◌, ap, subst, arith, length, get_or, eq-eqb, ne_eqb}
+use Rattle.std.specs.Prelude.{Contains, IsSomeAnd, AllPairs, IsPermutation, slice_get, filter, filter_map, ◌&&◌, ◌==◌, count_by, if◌then◌else◌}
 use Rattle.std.specs.List.{flat_map, cons_option}
 use Rattle.std.specs.Option.{option_map_or}
 use Rattle.std.proofs.lemmas.List.Sums.{sum_by-cons}
 use mathlib.Core.Logic.{dite}
 use native.Mathlib.Decide.{ℕ_discrete}
-use Rattle.capture_terms.specs.Datagram.{is_member, members, is_complete, group_from, datagram_from}
+use Rattle.capture_terms.specs.Datagram.{is_member, members, is_complete, group_from, datagram_from, IsDatagramAt}
 use Rattle.capture_terms.specs.declared.plan.Group.{Group}
 use Rattle.capture_terms.specs.declared.plan.Task.{Task}
+use Rattle.capture_terms.proofs.Filters.{get_there, there_get}
+use Rattle.capture_terms.proofs.PlanLaw.{member_group}
 use Rattle.rule_terms.specs.Rule.{Rule}
 use Rattle.inspection_terms.specs.Findings.{findings_in, all_findings}
 use Rattle.serial_terms.specs.Counts.{times}
 use Rattle.serial_terms.specs.Serial.{State}
 use Rattle.serial_terms.proofs.Basics.{append_nil, bool_cases}
 use Rattle.serial_terms.proofs.Pools.{times_append}
-use Rattle.run_stages.specs.Work.{Work, task, task_item, group_item, item_values, values_of}
+use Rattle.run_stages.specs.Work.{Work, IsWhole, IsMember, IsComplete, task, task_item, group_item, item_values, values_of}
 use Rattle.run_stages.specs.Stages.{IsLawful}
 use Rattle.run_stages.specs.Ends.{IsFinished, AreAllDatagrams}
 use Rattle.run_stages.specs.FromCapture.{whole_values, work_of}
 use Rattle.run_stages.proofs.Counting.{times_cons_same, times_cons_other, task_items, group_items, task_no_group}
 use Rattle.run_stages.proofs.Matching.{task_item_values, group_item_values, values_append}
-use Rattle.run_stages.proofs.Finishing.{same_values, finds_all}
+use Rattle.run_stages.proofs.Finishing.{item_cases, same_values, finds_all}
 use Rattle.run_stages.proofs.FromTasks.{one_if, nth, nth_is, long, below, group_at, complete_passes, passes_complete}
 
 -- ---- lists with all datagrams have the same items
-
-item_cases : (x : ℕ) → ((i : ℕ) × (x ≡ task_item i)) ⊎ ((h : ℕ) × (x ≡ group_item h))
-item_cases x = dite (ℕ_discrete (x % 2) 0) (λ e. inl (x / 2, omega arith)) (λ e. inr (x / 2, omega arith))
 
 module _ (work : Work) (xs ys : List ℕ) (a : AreAllDatagrams work xs) (b : AreAllDatagrams work ys) where
   same_once : (p q : ℕ) → (0 < p → (p ≡ 1) × (q ≡ 1)) → (0 < q → (p ≡ 1) × (q ≡ 1)) → p ≡ q
@@ -297,3 +296,60 @@ module _ (rules : List Rule) (bytes : List ℕ) (tasks : List Task) (groups : Li
 
   pub log_found : AllPairs IsBefore tasks → (s : State) → IsLawful work s → IsFinished work s → IsPermutation (all_findings rules bytes tasks) (s.logs 0).items
   log_found pairs s l f = subst (λ (z : List ℕ). IsPermutation z (s.logs 0).items) items_values (finds_all work s l f items (all_items pairs))
+
+-- ---- the datagrams that items stand for
+
+in_list : (x : ℕ) (xs : List ℕ) → 0 < times x xs → Contains xs x
+in_list x [] l = absurd (omega arith)
+in_list x (y ∷ xs) l = dite (ℕ_discrete x y)
+    (λ e. (0, omega arith, sym e))
+    (λ n. let o = times_cons_other x y xs n in let r = in_list x xs (omega arith) in (suc r.0, omega (arith, r.1), r.2))
+
+list_in : (xs : List ℕ) (k d : ℕ) → k < length xs → 0 < times (get_or xs k d) xs
+list_in [] k d l = absurd (omega arith)
+list_in (x ∷ xs) zero d l = let a = times_cons_same x x xs refl in omega arith
+list_in (x ∷ xs) (suc k) d l = let r = list_in xs k d (omega arith) in more (get_or xs k d) x xs r
+  where
+    more : (z x : ℕ) (xs : List ℕ) → 0 < times z xs → 0 < times z (x ∷ xs)
+    more z x xs l = dite (ℕ_discrete z x) (λ e. let a = times_cons_same z x xs e in omega arith) (λ n. let a = times_cons_other z x xs n in omega arith)
+
+module _ (rules : List Rule) (bytes : List ℕ) (tasks : List Task) (groups : List Group) where
+  there : (i : ℕ) → i < length tasks → slice_get tasks i ≡ Some (nth rules bytes tasks groups i)
+  there i l = get_there tasks i (nth rules bytes tasks groups i) l ∙ ap (λ (t : Task). Some t) (sym (nth_is rules bytes tasks groups i (nth rules bytes tasks groups i) l))
+
+  pub whole_datagram : (i : ℕ) → IsWhole (work_of rules bytes tasks groups) i
+      → (datagram : List Task) × IsDatagramAt tasks (i ∷ []) datagram × ((work_of rules bytes tasks groups).task_values i ≡ findings_in rules bytes datagram)
+  whole_datagram i a =
+      let t : Task = nth rules bytes tasks groups i in
+      let at = there i (below rules bytes tasks groups i a.below) in (
+        t ∷ [],
+        inl (record { number = i; task = t; alone = refl; there = at; whole = sym (group_at rules bytes tasks groups i) ∙ a.alone; is = refl }),
+        task_value rules bytes tasks groups i ∙ ap (λ (o : Option Task). option_map_or (λ (u : Task). findings_in rules bytes (u ∷ [])) o []) at,
+      )
+
+  pub group_datagram : (h : ℕ) (numbers : List ℕ) → IsComplete (work_of rules bytes tasks groups) h
+      → ((i : ℕ) → IsMember (work_of rules bytes tasks groups) h i → 0 < times i numbers) → ((i : ℕ) → 0 < times i numbers → IsMember (work_of rules bytes tasks groups) h i)
+      → (datagram : List Task) × IsDatagramAt tasks numbers datagram × ((work_of rules bytes tasks groups).group_values h ≡ findings_in rules bytes datagram)
+  group_datagram h numbers c every only = (
+    members tasks h,
+    inr (record {
+      group = h;
+      each = λ k d l.
+          let m = only (get_or numbers k d) (list_in numbers k d l) in
+          subst (λ (o : Option Task). IsSomeAnd o (λ task. is_member h task ≡ true)) (sym (there (get_or numbers k d) (below rules bytes tasks groups (get_or numbers k d) m.below)))
+          (group_member h (nth rules bytes tasks groups (get_or numbers k d)) (sym (group_at rules bytes tasks groups (get_or numbers k d)) ∙ m.belongs));
+      all = λ number t at is.
+          let inside = there_get tasks number t t at in
+          let nth_at : nth rules bytes tasks groups number ≡ t = nth_is rules bytes tasks groups number t inside.0 ∙ inside.1 in
+          in_list number numbers (every number (record {
+            below = (let n = long rules bytes tasks groups in let i = inside.0 in omega arith);
+            belongs = group_at rules bytes tasks groups number ∙ (ap (λ (u : Task). u.group) nth_at ∙ member_group h t is);
+          }));
+      complete = complete_passes rules bytes tasks groups h c;
+      is = refl;
+    }),
+    group_value rules bytes tasks groups h,
+  )
+    where
+      group_member : (number : ℕ) (t : Task) → t.group ≡ Some number → is_member number t ≡ true
+      group_member number t e = ap (λ (o : Option ℕ). option_map_or (λ group. group == number) o false) e ∙ eq-eqb number number refl

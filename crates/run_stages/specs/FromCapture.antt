@@ -2,7 +2,7 @@
 use Rattle.std.specs.Prelude.{◌≡◌, ℕ, ◌<◌, false, List, [], ◌∷◌, length, slice_get, map, AllPairs, IsPermutation, ◌↔◌}
 use Rattle.std.specs.Option.{option_map_or}
 use Rattle.capture_terms.specs.Capture.{contents_of}
-use Rattle.capture_terms.specs.Datagram.{incomplete, is_complete, members}
+use Rattle.capture_terms.specs.Datagram.{incomplete, is_complete, members, IsDatagramAt}
 use Rattle.capture_terms.specs.Plan as plan
 use Rattle.capture_terms.specs.declared.capture.Capture.{Capture}
 use Rattle.capture_terms.specs.declared.plan.Group.{Group}
@@ -12,7 +12,7 @@ use Rattle.rule_terms.specs.Rule.{Rule}
 use Rattle.inspection_terms.specs.Findings.{findings_in, all_findings, findings_of_capture}
 use Rattle.serial_terms.specs.Counts.{times}
 use Rattle.serial_terms.specs.Serial.{State}
-use Rattle.run_stages.specs.Work.{Work, TaskFacts, IsSoundWork, values_of}
+use Rattle.run_stages.specs.Work.{Work, TaskFacts, IsSoundWork, IsWhole, IsMember, IsComplete, values_of}
 use Rattle.run_stages.specs.Stages.{IsLawful}
 use Rattle.run_stages.specs.Ends.{IsFinished, AreAllDatagrams, IsIncomplete}
 
@@ -58,3 +58,15 @@ abbrev pub FinishedFindsCapture : Type 0
 FinishedFindsCapture = (rules : List Rule) (bytes : List ℕ) (capture : Capture) (planned : Plan) → plan.IsPlan bytes capture planned
     → (s : State) → IsLawful (work_of rules bytes planned.tasks.items planned.groups.items) s → IsFinished (work_of rules bytes planned.tasks.items planned.groups.items) s
     → IsPermutation (findings_of_capture rules bytes (contents_of capture)) (s.logs 0).items
+
+-- the task of a whole datagram is asked for by its number, and has the values of the findings in the datagram
+abbrev pub WholeIsDatagram : Type 0
+WholeIsDatagram = (rules : List Rule) (bytes : List ℕ) (tasks : List Task) (groups : List Group) (i : ℕ) → IsWhole (work_of rules bytes tasks groups) i
+    → (datagram : List Task) × IsDatagramAt tasks (i ∷ []) datagram × ((work_of rules bytes tasks groups).task_values i ≡ findings_in rules bytes datagram)
+
+-- the datagram of a complete group is asked for by the numbers of the group's tasks, in any order, and the group has the
+-- values of the findings in it
+abbrev pub GroupIsDatagram : Type 0
+GroupIsDatagram = (rules : List Rule) (bytes : List ℕ) (tasks : List Task) (groups : List Group) (h : ℕ) (numbers : List ℕ) → IsComplete (work_of rules bytes tasks groups) h
+    → ((i : ℕ) → IsMember (work_of rules bytes tasks groups) h i → 0 < times i numbers) → ((i : ℕ) → 0 < times i numbers → IsMember (work_of rules bytes tasks groups) h i)
+    → (datagram : List Task) × IsDatagramAt tasks numbers datagram × ((work_of rules bytes tasks groups).group_values h ≡ findings_in rules bytes datagram)

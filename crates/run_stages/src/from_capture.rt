@@ -1,6 +1,6 @@
 //! Laws of the work that a capture gives. Each function does nothing; what it ensures is the law.
 
-ghost use Rattle.run_stages.specs.FromCapture.{PlansAreWork, ValuesAreFindings, FinishedFindsCapture, IncompleteAreCounted};
+ghost use Rattle.run_stages.specs.FromCapture.{PlansAreWork, ValuesAreFindings, FinishedFindsCapture, IncompleteAreCounted, WholeIsDatagram, GroupIsDatagram};
 
 use capture_terms::{group_law, task_law};
 
@@ -27,4 +27,15 @@ pub fn finished_finds_capture()
 /// The incomplete groups of a run are those that are counted of a plan.
 pub fn incomplete_are_counted()
     ensures { IncompleteAreCounted }
+{}
+
+/// A whole datagram's task is asked for by its number, and has the values of the findings in it.
+pub fn whole_is_datagram()
+    ensures { WholeIsDatagram }
+{}
+
+/// A complete group's datagram is asked for by the numbers of the group's tasks, in any order, and the
+/// group has the values of the findings in it.
+pub fn group_is_datagram()
+    ensures { GroupIsDatagram }
 {}
