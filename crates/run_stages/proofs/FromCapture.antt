@@ -1,12 +1,12 @@
 -- The values of the work's datagrams are the findings in the datagrams of the tasks.
 use Rattle.std.proofs.Common.{◌≡◌, ◌≢◌, ℕ, zero, suc, ◌+◌, ◌<◌, Bool, true, false, cond, List, [], ◌∷◌, ◌++◌, Option, None, Some, inl, inr, ⊎_elim, refl, sym, ◌∙◌, ap, subst, arith, length, get_or, eq-eqb, ne_eqb}
-use Rattle.std.specs.Prelude.{Contains, IsSomeAnd, AllPairs, IsPermutation, slice_get, filter, filter_map, ◌&&◌, ◌==◌, count_by, if◌then◌else◌}
-use Rattle.std.specs.List.{flat_map, cons_option}
+use Rattle.std.specs.Prelude.{not, is_some, IsSome, Contains, IsSomeAnd, AllPairs, IsPermutation, slice_get, filter, filter_map, ◌&&◌, ◌==◌, count_by, if◌then◌else◌}
+use Rattle.std.specs.List.{flat_map, cons_option, range_with_len}
 use Rattle.std.specs.Option.{option_map_or}
 use Rattle.std.proofs.lemmas.List.Sums.{sum_by-cons}
 use mathlib.Core.Logic.{dite}
 use native.Mathlib.Decide.{ℕ_discrete}
-use Rattle.capture_terms.specs.Datagram.{is_member, members, is_complete, group_from, datagram_from, IsDatagramAt}
+use Rattle.capture_terms.specs.Datagram.{is_member, members, is_complete, incomplete, group_from, datagram_from, IsDatagramAt}
 use Rattle.capture_terms.specs.declared.plan.Group.{Group}
 use Rattle.capture_terms.specs.declared.plan.Task.{Task}
 use Rattle.capture_terms.proofs.Filters.{get_there, there_get}
@@ -17,14 +17,14 @@ use Rattle.serial_terms.specs.Counts.{times}
 use Rattle.serial_terms.specs.Serial.{State}
 use Rattle.serial_terms.proofs.Basics.{append_nil, bool_cases}
 use Rattle.serial_terms.proofs.Pools.{times_append}
-use Rattle.run_stages.specs.Work.{Work, IsWhole, IsMember, IsComplete, task, task_item, group_item, item_values, values_of}
+use Rattle.run_stages.specs.Work.{Work, IsSoundWork, IsWhole, IsMember, IsComplete, task, task_item, group_item, item_values, values_of}
 use Rattle.run_stages.specs.Stages.{IsLawful}
 use Rattle.run_stages.specs.Ends.{IsFinished, AreAllDatagrams}
 use Rattle.run_stages.specs.FromCapture.{whole_values, work_of}
-use Rattle.run_stages.proofs.Counting.{times_cons_same, times_cons_other, task_items, group_items, task_no_group}
+use Rattle.run_stages.proofs.Counting.{total_same, times_cons_same, times_cons_other, task_items, group_items, task_no_group}
 use Rattle.run_stages.proofs.Matching.{task_item_values, group_item_values, values_append}
-use Rattle.run_stages.proofs.Finishing.{item_cases, same_values, finds_all}
-use Rattle.run_stages.proofs.FromTasks.{one_if, nth, nth_is, long, below, group_at, complete_passes, passes_complete}
+use Rattle.run_stages.proofs.Finishing.{item_cases, same_values, finds_all, incomplete_alone}
+use Rattle.run_stages.proofs.FromTasks.{one_if, count_range, incomplete_iff, nth, nth_is, long, below, group_at, complete_passes, passes_complete}
 
 -- ---- lists with all datagrams have the same items
 
@@ -353,3 +353,36 @@ module _ (rules : List Rule) (bytes : List ℕ) (tasks : List Task) (groups : Li
     where
       group_member : (number : ℕ) (t : Task) → t.group ≡ Some number → is_member number t ≡ true
       group_member number t e = ap (λ (o : Option ℕ). option_map_or (λ group. group == number) o false) e ∙ eq-eqb number number refl
+
+-- ---- the groups that have a word at the end
+
+module _ (rules : List Rule) (bytes : List ℕ) (tasks : List Task) (groups : List Group) (p : IsSoundWork (work_of rules bytes tasks groups)) (s : State) (l : IsLawful (work_of rules bytes tasks groups) s) (f : IsFinished (work_of rules bytes tasks groups) s) where
+  word_incomplete : (h x : ℕ) → s.maps 0 h ≡ Some x → (h < length groups) × (is_complete (members tasks h) ≡ false)
+  word_incomplete h x e = (incomplete_iff rules bytes tasks groups h).0 ((incomplete_alone (work_of rules bytes tasks groups) s l f p).0 h x e)
+
+  incomplete_word : (h : ℕ) → h < length groups → is_complete (members tasks h) ≡ false → IsSome (s.maps 0 h)
+  incomplete_word h m e = (incomplete_alone (work_of rules bytes tasks groups) s l f p).1 h ((incomplete_iff rules bytes tasks groups h).1 (m, e))
+
+  pub word_there : (h : ℕ) → IsSome (s.maps 0 h) → h < length groups
+  word_there h e = by_case (s.maps 0 h) refl e
+    where
+      by_case : (o : Option ℕ) → s.maps 0 h ≡ o → is_some o ≡ true → h < length groups
+      by_case None is e = absurd (cc)
+      by_case (Some x) is e = (word_incomplete h x is).0
+
+  has_word : (h : ℕ) → h < length groups → is_some (s.maps 0 h) ≡ not (is_complete (members tasks h))
+  has_word h m = by_case (s.maps 0 h) refl
+    where
+      lacking : s.maps 0 h ≡ None → (b : Bool) → is_complete (members tasks h) ≡ b → false ≡ not b
+      lacking is true e = refl
+      lacking is false e = sym (ap is_some is) ∙ incomplete_word h m e
+
+      by_case : (o : Option ℕ) → s.maps 0 h ≡ o → is_some (s.maps 0 h) ≡ not (is_complete (members tasks h))
+      by_case None is = ap is_some is ∙ lacking is (is_complete (members tasks h)) refl
+      by_case (Some x) is = ap is_some is ∙ sym (ap not (word_incomplete h x is).1)
+
+  pub words_counted : count_by (λ h. is_some (s.maps 0 h)) (range_with_len 0 (length groups)) ≡ incomplete tasks groups
+  words_counted =
+      count_range (λ h. is_some (s.maps 0 h)) 0 (length groups)
+      ∙ (total_same (λ h. one_if (is_some (s.maps 0 (0 + h)))) (λ h. one_if (not (is_complete (members tasks (0 + h))))) (length groups) (λ h m. ap one_if (has_word (0 + h) (omega arith)))
+      ∙ sym (count_range (λ h. not (is_complete (members tasks h))) 0 (length groups)))

@@ -50,7 +50,7 @@ sum_filter g p (x ∷ xs) = by_case (sum_filter g p xs) (p x) ∙ sym (sum_by-co
 abbrev pub one_if : Bool → ℕ
 one_if b = if b then 1 else 0
 
-count_range : (p : ℕ → Bool) (a n : ℕ) → count_by p (range_with_len a n) ≡ total_below (λ i. one_if (p (a + i))) n
+pub count_range : (p : ℕ → Bool) (a n : ℕ) → count_by p (range_with_len a n) ≡ total_below (λ i. one_if (p (a + i))) n
 count_range p a zero = refl
 count_range p a (suc n) =
     let c : count_by p (range_with_len a (suc n)) ≡ one_if (p a) + count_by p (range_with_len (a + 1) n) = sum_by-cons (λ i. one_if (p i)) a (range_with_len (a + 1) n) in

@@ -1,5 +1,6 @@
 -- The work that the tasks of a capture's plan give under rules, and what its run finds.
-use Rattle.std.specs.Prelude.{◌≡◌, ℕ, ◌<◌, false, List, [], ◌∷◌, length, slice_get, map, AllPairs, IsPermutation, ◌↔◌}
+use Rattle.std.specs.Prelude.{◌≡◌, ℕ, ◌<◌, false, List, [], ◌∷◌, length, slice_get, map, AllPairs, IsPermutation, IsSome, is_some, count_by, ◌↔◌}
+use Rattle.std.specs.List.{range_with_len}
 use Rattle.std.specs.Option.{option_map_or}
 use Rattle.capture_terms.specs.Capture.{contents_of}
 use Rattle.capture_terms.specs.Datagram.{incomplete, is_complete, members, IsDatagramAt}
@@ -70,3 +71,10 @@ abbrev pub GroupIsDatagram : Type 0
 GroupIsDatagram = (rules : List Rule) (bytes : List ℕ) (tasks : List Task) (groups : List Group) (h : ℕ) (numbers : List ℕ) → IsComplete (work_of rules bytes tasks groups) h
     → ((i : ℕ) → IsMember (work_of rules bytes tasks groups) h i → 0 < times i numbers) → ((i : ℕ) → 0 < times i numbers → IsMember (work_of rules bytes tasks groups) h i)
     → (datagram : List Task) × IsDatagramAt tasks numbers datagram × ((work_of rules bytes tasks groups).group_values h ≡ findings_in rules bytes datagram)
+
+-- and map 0 of a finished lawful state has a word for as many groups as are incomplete, and for none that isn't there
+abbrev pub FinishedCountsIncomplete : Type 0
+FinishedCountsIncomplete = (rules : List Rule) (bytes : List ℕ) (capture : Capture) (planned : Plan) → plan.IsClassifiable bytes capture → plan.IsPlan bytes capture planned
+    → (s : State) → IsLawful (work_of rules bytes planned.tasks.items planned.groups.items) s → IsFinished (work_of rules bytes planned.tasks.items planned.groups.items) s
+    → ((h : ℕ) → IsSome (s.maps 0 h) → h < length planned.groups.items)
+    × (count_by (λ h. is_some (s.maps 0 h)) (range_with_len 0 (length planned.groups.items)) ≡ incomplete planned.tasks.items planned.groups.items)

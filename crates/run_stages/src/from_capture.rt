@@ -1,6 +1,6 @@
 //! Laws of the work that a capture gives. Each function does nothing; what it ensures is the law.
 
-ghost use Rattle.run_stages.specs.FromCapture.{PlansAreWork, ValuesAreFindings, FinishedFindsCapture, IncompleteAreCounted, WholeIsDatagram, GroupIsDatagram};
+ghost use Rattle.run_stages.specs.FromCapture.{PlansAreWork, ValuesAreFindings, FinishedFindsCapture, IncompleteAreCounted, FinishedCountsIncomplete, WholeIsDatagram, GroupIsDatagram};
 
 use capture_terms::{group_law, task_law};
 
@@ -28,6 +28,14 @@ pub fn finished_finds_capture()
 pub fn incomplete_are_counted()
     ensures { IncompleteAreCounted }
 {}
+
+/// So map 0 of a finished lawful state has a word for as many groups as are counted, and for none that
+/// isn't there.
+pub fn finished_counts_incomplete()
+    ensures { FinishedCountsIncomplete }
+{
+    group_law();
+}
 
 /// A whole datagram's task is asked for by its number, and has the values of the findings in it.
 pub fn whole_is_datagram()
