@@ -1,6 +1,7 @@
 pub mod Answers
 pub mod Exists
 pub mod Filters
+pub mod Firsts
 pub mod Places
 pub mod PlanGroups
 pub mod PlanLaw

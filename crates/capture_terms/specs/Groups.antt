@@ -1,8 +1,8 @@
--- What a plan keeps of its groups.
-use Rattle.std.specs.Prelude.{◌≡◌, ℕ, ◌<◌, ◌≤◌, true, List, length, Some, All, AllPairs, Contains}
+-- What a plan keeps of its groups, and with which task a datagram begins.
+use Rattle.std.specs.Prelude.{◌≡◌, ℕ, ◌<◌, ◌≤◌, true, List, ◌∷◌, length, slice_get, Some, All, AllPairs, Contains}
 use Rattle.capture_terms.specs.declared.plan.Group.{Group}
 use Rattle.capture_terms.specs.declared.plan.Task.{Task}
-use Rattle.capture_terms.specs.Datagram.{end_of_task, size_of, members}
+use Rattle.capture_terms.specs.Datagram.{end_of_task, size_of, members, IsDatagramAt}
 
 -- two tasks are not both the last of one group
 abbrev pub AreNotBothLast : Task → Task → Type 0
@@ -20,3 +20,8 @@ pub record AreGrouped (tasks : List Task) (groups : List Group) : Type 0 where
   pub one_last : AllPairs AreNotBothLast tasks
   pub packed : All (λ task. (number : ℕ) → task.group ≡ Some number → task.last ≡ true → size_of (members tasks number) ≤ end_of_task task) tasks
   pub bounded : (number : ℕ) → size_of (members tasks number) ≤ 65535
+
+-- the datagram that is asked for by the numbers of its tasks begins with the task of the least number
+abbrev pub LeastIsFirst : Type 0
+LeastIsFirst = (tasks : List Task) (numbers : List ℕ) (datagram : List Task) (least : ℕ) (first : Task) → IsDatagramAt tasks numbers datagram
+    → Contains numbers least → All (λ number. least ≤ number) numbers → slice_get tasks least ≡ Some first → (others : List Task) × (datagram ≡ first ∷ others)
