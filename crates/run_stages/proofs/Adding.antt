@@ -6,18 +6,18 @@ use native.Mathlib.Decide.{ℕ_discrete}
 use Rattle.serial_terms.specs.Counts.{times, with_at}
 use Rattle.serial_terms.specs.Serial.{Pool, Sequence, less}
 use Rattle.serial_terms.proofs.Basics.{with_at_same, with_at_other}
-use Rattle.run_stages.specs.Work.{Work, IsWhole, IsMember, IsComplete, IsPlan, task_item, group_item, piece, end_of}
+use Rattle.run_stages.specs.Work.{Work, IsWhole, IsMember, IsComplete, IsSoundWork, group_word, head_of, task_item, group_item, task, end_of}
 use Rattle.run_stages.specs.Allowed.{new_bytes, new_total}
 use Rattle.run_stages.specs.Stages.{IsAdded, AllAdded, Stages, LeadThrough, chain_bytes, chain_total, chain_word}
 use Rattle.run_stages.proofs.Counting.{times_cons_same, times_cons_other, times_push_same, times_push_other, push_length, group_items, task_no_group}
 use Rattle.run_stages.proofs.Taking.{whole_no_member, one_group, taken_here, taken_other, taken_le, taken_held, still_added, was_added, some_held}
 use Rattle.run_stages.proofs.Matching.{lead_same}
-use Rattle.run_stages.proofs.Chains.{bytes_le, total_short, word_bytes, word_total, ready_complete, complete_ready}
+use Rattle.run_stages.proofs.Chains.{word_head, bytes_le, total_short, word_bytes, word_total, ready_complete, complete_ready}
 
 zero_or : (x : ℕ) → (0 < x → ⊥) → x ≡ 0
 zero_or x n = grind arith
 
-module _ (w : Work) (f : ℕ) (pool : Pool) (queue : Sequence) (words links : ℕ → Option ℕ) (log matched : List ℕ) (chain : ℕ → List ℕ) (g : Stages w f pool queue words links log matched chain) where
+module _ {w : Work} {f : ℕ} {pool : Pool} {queue : Sequence} {words links : ℕ → Option ℕ} {log matched : List ℕ} {chain : ℕ → List ℕ} (g : Stages w f pool queue words links log matched chain) where
   -- ---- chains
 
   pub chain_members : (h j : ℕ) → 0 < times j (chain h) → IsMember w h j
@@ -26,7 +26,18 @@ module _ (w : Work) (f : ℕ) (pool : Pool) (queue : Sequence) (words links : �
   pub chain_once : (h j : ℕ) → times j (chain h) ≤ 1
   chain_once h j = dite (ℕ_discrete (times j (chain h)) 0) (λ e. omega arith) (λ n. let o = g.only_chained h j (omega arith) in let c = g.chained h j o.0 o.1 in omega arith)
 
-  module _ (p : IsPlan w) (h i : ℕ) (m : IsMember w h i) (there : 0 < pool.count i) where
+  -- a group's word shows the head of its chain
+  pub heads : IsSoundWork w → (h x : ℕ) → words h ≡ Some x → (js : List ℕ) × (chain h ≡ head_of x ∷ js)
+  heads p h x e = shown (chain h) (chain_members h) (chain_once h) (sym (g.word h) ∙ e)
+    where
+      shown : (c : List ℕ) → ((j : ℕ) → 0 < times j c → IsMember w h j) → ((j : ℕ) → times j c ≤ 1) → chain_word w c ≡ Some x → (js : List ℕ) × (c ≡ head_of x ∷ js)
+      shown [] a b q = absurd (cc)
+      shown (j ∷ js) a b q =
+          let is : group_word j (chain_bytes w (j ∷ js)) (chain_total w (j ∷ js)) ≡ x = cc in
+          let head = word_head j (chain_bytes w (j ∷ js)) (chain_total w (j ∷ js)) (let l = bytes_le w h (j ∷ js) a b in let k = p.bounded h in omega arith) (total_short w p h (j ∷ js) a) in
+          (js, ap (λ (z : ℕ). z ∷ js) (sym head ∙ ap head_of is))
+
+  module _ (p : IsSoundWork w) (h i : ℕ) (m : IsMember w h i) (there : 0 < pool.count i) where
     pub not_chained : (k : ℕ) → times i (chain k) ≡ 0
     not_chained k = zero_or (times i (chain k)) (λ l. let t = (g.only_chained k i l).0.taken in omega arith)
 
@@ -49,23 +60,23 @@ module _ (w : Work) (f : ℕ) (pool : Pool) (queue : Sequence) (words links : �
     in_more : (j : ℕ) → IsAdded w f (less pool i) h j → times j (i ∷ chain h) ≡ 1
     in_more j a = dite (ℕ_discrete j i)
         (λ e. let s = times_cons_same j i (chain h) e in let b = ap (λ (z : ℕ). times z (chain h)) e in let c = not_chained h in omega arith)
-        (λ e. let s = times_cons_other j i (chain h) e in let z = no_item in let c = g.chained h j (was_added w f pool queue words links log matched chain g i there h j e a) (omega arith) in omega arith)
+        (λ e. let s = times_cons_other j i (chain h) e in let z = no_item in let c = g.chained h j (was_added g i there h j e a) (omega arith) in omega arith)
 
     more_in : (j : ℕ) → 0 < times j (i ∷ chain h) → IsAdded w f (less pool i) h j
     more_in j l = dite (ℕ_discrete j i)
-        (λ e. subst (λ (z : ℕ). IsAdded w f (less pool i) h z) (sym e) (record { member = m; given = g.pooled i there; taken = taken_here w f pool queue words links log matched chain g i there }))
-        (λ e. let s = times_cons_other j i (chain h) e in still_added w f pool queue words links log matched chain g i there h j (g.only_chained h j (omega arith)).0)
+        (λ e. subst (λ (z : ℕ). IsAdded w f (less pool i) h z) (sym e) (record { member = m; given = g.pooled i there; taken = taken_here g i there }))
+        (λ e. let s = times_cons_other j i (chain h) e in still_added g i there h j (g.only_chained h j (omega arith)).0)
 
     -- the new word is the word of the new chain
     new_bytes_are : (c : List ℕ) → ((j : ℕ) → 0 < times j c → IsMember w h j) → ((j : ℕ) → times j c ≤ 1) → new_bytes w i (chain_word w c) ≡ chain_bytes w (i ∷ c)
     new_bytes_are [] a b = omega arith
     new_bytes_are (j ∷ c) a b = let l = bytes_le w h (j ∷ c) a b in let k = p.bounded h in let t = total_short w p h (j ∷ c) a in
-        ap (λ (z : ℕ). (piece w i).size + z) (word_bytes j (chain_bytes w (j ∷ c)) (chain_total w (j ∷ c)) (omega arith) t)
+        ap (λ (z : ℕ). (task w i).size + z) (word_bytes j (chain_bytes w (j ∷ c)) (chain_total w (j ∷ c)) (omega arith) t)
 
     new_total_is : (c : List ℕ) → ((j : ℕ) → 0 < times j c → IsMember w h j) → ((j : ℕ) → times j c ≤ 1) → new_total w i (chain_word w c) ≡ chain_total w (i ∷ c)
     new_total_is [] a b = refl
     new_total_is (j ∷ c) a b = let l = bytes_le w h (j ∷ c) a b in let k = p.bounded h in let t = total_short w p h (j ∷ c) a in
-        ap (λ (z : ℕ). cond (piece w i).last (end_of w i) z) (word_total j (chain_bytes w (j ∷ c)) (chain_total w (j ∷ c)) (omega arith) t)
+        ap (λ (z : ℕ). cond (task w i).last (end_of w i) z) (word_total j (chain_bytes w (j ∷ c)) (chain_total w (j ∷ c)) (omega arith) t)
 
     pub bytes_now : new_bytes w i (words h) ≡ chain_bytes w (i ∷ chain h)
     bytes_now = ap (new_bytes w i) (g.word h) ∙ new_bytes_are (chain h) (chain_members h) (chain_once h)
@@ -96,7 +107,7 @@ module _ (w : Work) (f : ℕ) (pool : Pool) (queue : Sequence) (words links : �
 
       -- of another group the same tasks are added
       other_added : (k j : ℕ) → k ≢ h → IsAdded w f (less pool i) k j → IsAdded w f pool k j
-      other_added k j n a = was_added w f pool queue words links log matched chain g i there k j (λ e. n (one_group w k h i (subst (λ (z : ℕ). IsMember w k z) e a.member) m)) a
+      other_added k j n a = was_added g i there k j (λ e. n (one_group w k h i (subst (λ (z : ℕ). IsMember w k z) e a.member) m)) a
 
       chain_here : (k : ℕ) → k ≡ h → with_at chain h (i ∷ chain h) k ≡ i ∷ chain h
       chain_here k e = with_at_same chain h (i ∷ chain h) k e
@@ -108,11 +119,11 @@ module _ (w : Work) (f : ℕ) (pool : Pool) (queue : Sequence) (words links : �
       fragment_added = record {
         slots = g.slots;
         capacity = g.capacity;
-        fits = let a = g.fits in let b = longer in let t = some_held w f pool queue words links log matched chain g i there in omega arith;
-        pooled = λ j l. let n = taken_le w f pool queue words links log matched chain g i there j in g.pooled j (omega arith);
-        once = λ j. let n = taken_le w f pool queue words links log matched chain g i there j in let o = g.once j in omega arith;
-        held = taken_held w f pool queue words links log matched chain g i there;
-        whole = λ j a b. let x = g.whole j a b in let t = task_times j in let o = taken_other w f pool queue words links log matched chain g i there j (λ e. whole_no_member w h i (subst (λ (z : ℕ). IsWhole w z) e a) m) in omega arith;
+        fits = let a = g.fits in let b = longer in let t = some_held g i there in omega arith;
+        pooled = λ j l. let n = taken_le g i there j in g.pooled j (omega arith);
+        once = λ j. let n = taken_le g i there j in let o = g.once j in omega arith;
+        held = taken_held g i there;
+        whole = λ j a b. let x = g.whole j a b in let t = task_times j in let o = taken_other g i there j (λ e. whole_no_member w h i (subst (λ (z : ℕ). IsWhole w z) e a) m) in omega arith;
         only_whole = λ j l. let t = task_times j in g.only_whole j (omega arith);
         group = λ k c a. dite (ℕ_discrete k h)
             (λ e. ⊎_elim
@@ -125,14 +136,14 @@ module _ (w : Work) (f : ℕ) (pool : Pool) (queue : Sequence) (words links : �
             (λ q. subst (λ (z : ℕ). IsComplete w z × AllAdded w f (less pool i) z) (sym e) q.0)
             (λ q. let t = ap (times (group_item k)) q.1 in let z = no_item in let y = ap (λ (x : ℕ). times (group_item x) queue.items) e in let v = ap (λ (x : ℕ). times (group_item x) matched) e in absurd (omega arith))
             queued)
-            (λ n. let t = group_times k n in let o = g.only_group k (omega arith) in (o.0, λ j y. still_added w f pool queue words links log matched chain g i there k j (o.1 j y)));
+            (λ n. let t = group_times k n in let o = g.only_group k (omega arith) in (o.0, λ j y. still_added g i there k j (o.1 j y)));
         found = g.found;
         chained = λ k j a y. dite (ℕ_discrete k h)
             (λ e. ap (times j) (chain_here k e) ∙ in_more j (subst (λ (z : ℕ). IsAdded w f (less pool i) z j) e a))
             (λ n. ap (times j) (chain_other k n) ∙ g.chained k j (other_added k j n a) y);
         only_chained = λ k j l. dite (ℕ_discrete k h)
             (λ e. let c = ap (times j) (chain_here k e) in let z = no_item in let v = ap (λ (x : ℕ). times (group_item x) matched) e in (subst (λ (z : ℕ). IsAdded w f (less pool i) z j) (sym e) (more_in j (omega arith)), omega arith))
-            (λ n. let c = ap (times j) (chain_other k n) in let o = g.only_chained k j (omega arith) in (still_added w f pool queue words links log matched chain g i there k j o.0, o.1));
+            (λ n. let c = ap (times j) (chain_other k n) in let o = g.only_chained k j (omega arith) in (still_added g i there k j o.0, o.1));
         word = λ k. dite (ℕ_discrete k h)
             (λ e. with_at_same words h (Some word) k e ∙ (is ∙ ap (chain_word w) (sym (chain_here k e))))
             (λ n. with_at_other words h (Some word) k n ∙ (g.word k ∙ ap (chain_word w) (sym (chain_other k n))));

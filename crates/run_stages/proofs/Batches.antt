@@ -14,13 +14,13 @@ use Rattle.serial_terms.specs.Serial.{State, IsWithinCapacity, IsReplied, step, 
 use Rattle.serial_terms.specs.Stores.{opening_of}
 use Rattle.serial_terms.proofs.Basics.{with_at_other, each_append}
 use Rattle.serial_terms.proofs.Legal.{legal_append}
-use Rattle.run_stages.specs.Work.{Work, IsPlan, IsWhole, IsMember, piece, total_below, group_bytes, given_count, task_item, is_some_of}
+use Rattle.run_stages.specs.Work.{Work, IsSoundWork, IsWhole, IsMember, task, total_below, group_bytes, given_count, task_item, is_some_of}
 use Rattle.run_stages.specs.Allowed.{Appends, IsAllowed, take_whole, match_whole, nothing_queued, nothing_pooled, fill, gives, next_batch}
 use Rattle.serial_terms.specs.Serial.{outside, in_child}
 use Rattle.run_stages.specs.Stages.{IsLawful}
 use Rattle.run_stages.specs.Opening.{opening, layout_of, IsRunOfWork}
 use Rattle.run_stages.specs.Ends.{IsFinished}
-use Rattle.run_stages.specs.Worked.{written, read_only, no_item, no_task, whole_piece}
+use Rattle.run_stages.specs.Worked.{written, read_only, no_item, no_task, whole_task}
 use Rattle.run_stages.specs.Batches.{frames, turns, batch_records, BatchesRun}
 use Rattle.run_stages.proofs.Bounds.{end_lawful}
 use Rattle.serial_terms.proofs.Stepping.{opening_within, queue_within, log_within, pool_within, cell_within, after_calls, AreReplied, ran}
@@ -32,13 +32,13 @@ use Rattle.run_stages.proofs.Runs.{gives_run}
 
 frames_length : (n : ℕ) → length (frames n).tasks ≡ n
 unfolding frames
-frames_length n = length-replicate n whole_piece
+frames_length n = length-replicate n whole_task
 
-frames_alone : (n i : ℕ) → (piece (frames n) i).group ≡ None
+frames_alone : (n i : ℕ) → (task (frames n) i).group ≡ None
 unfolding frames
 frames_alone n i = ⊎_elim
-    (λ l. ap (λ (z : _). z.group) (get_or-replicate n i whole_piece (record { group = None; start = 0; size = 0; last = false }) l))
-    (λ l. ap (λ (z : _). z.group) (get_or-eq_default (replicate n whole_piece) (record { group = None; start = 0; size = 0; last = false }) (let e = length-replicate n whole_piece in omega arith)))
+    (λ l. ap (λ (z : _). z.group) (get_or-replicate n i whole_task (record { group = None; start = 0; size = 0; last = false }) l))
+    (λ l. ap (λ (z : _). z.group) (get_or-eq_default (replicate n whole_task) (record { group = None; start = 0; size = 0; last = false }) (let e = length-replicate n whole_task in omega arith)))
     (below_or i n)
   where
     below_or : (i n : ℕ) → (i < n) ⊎ (n ≤ i)
@@ -51,7 +51,7 @@ frames_whole : (n i : ℕ) → i < n → IsWhole (frames n) i
 frames_whole n i l = record { below = let e = frames_length n in omega arith; alone = frames_alone n i }
 
 no_bytes : (n h : ℕ) → group_bytes (frames n) h ≡ 0
-no_bytes n h = total_same (λ i. cond (is_some_of (piece (frames n) i).group h) (piece (frames n) i).size 0) (λ i. 0) (length (frames n).tasks) (λ i l. ap (λ (z : Option ℕ). cond (is_some_of z h) (piece (frames n) i).size 0) (frames_alone n i)) ∙ zeros (length (frames n).tasks)
+no_bytes n h = total_same (λ i. cond (is_some_of (task (frames n) i).group h) (task (frames n) i).size 0) (λ i. 0) (length (frames n).tasks) (λ i l. ap (λ (z : Option ℕ). cond (is_some_of z h) (task (frames n) i).size 0) (frames_alone n i)) ∙ zeros (length (frames n).tasks)
   where
     zeros : (k : ℕ) → total_below (λ i. 0) k ≡ 0
     zeros zero = refl
@@ -65,8 +65,8 @@ frames_values : (n i : ℕ) → (frames n).task_values i ≡ (i * 2 ^ 32 + 8) �
 unfolding frames
 frames_values n i = refl
 
-frames_plan : (n : ℕ) → IsPlan (frames n)
-frames_plan n = record {
+frames_sound : (n : ℕ) → IsSoundWork (frames n)
+frames_sound n = record {
   numbered = λ h i m. absurd (frames_no_member n h i m);
   inhabited = λ h l. let e = frames_no_groups n in absurd (omega arith);
   filled = λ h i m. absurd (frames_no_member n h i m);
@@ -318,8 +318,8 @@ module _ (n : ℕ) (low : 4096 < n) (high : n ≤ 8192) where
     allowed = each_append (λ e. IsAllowed (frames n) e.dones) (turns 0 0 0 4096) _ (turns_allowed n 4096 0 0 0 (omega arith)) (rest_allowed first_batch.0 first_batch.2);
   }
 
-  batches : IsPlan (frames n) × ((end : State) × IsRunOfWork (frames n) 65536 (batch_records n) end × IsLawful (frames n) end × IsFinished (frames n) end)
-  batches = (frames_plan n, (second_batch.0, run, end_lawful (frames n) (frames_plan n) 65536 (batch_records n) second_batch.0 run, finished first_batch.0 first_batch.2 second_batch.0 second_batch.2))
+  batches : IsSoundWork (frames n) × ((end : State) × IsRunOfWork (frames n) 65536 (batch_records n) end × IsLawful (frames n) end × IsFinished (frames n) end)
+  batches = (frames_sound n, (second_batch.0, run, end_lawful (frames n) (frames_sound n) 65536 (batch_records n) second_batch.0 run, finished first_batch.0 first_batch.2 second_batch.0 second_batch.2))
 
 pub batches_run : BatchesRun
 batches_run n low high = batches n low high

@@ -14,7 +14,7 @@ use Rattle.serial_terms.specs.Serial.{State, found, Pool, Sequence, after, rest,
 use Rattle.serial_terms.specs.Stores.{opening_of}
 use Rattle.serial_terms.proofs.Running.{run_split}
 use Rattle.serial_terms.proofs.Basics.{each_append, if_true, if_false}
-use Rattle.run_stages.specs.Work.{Work, IsPlan, given_count, head_of, task_item, group_item}
+use Rattle.run_stages.specs.Work.{Work, IsSoundWork, given_count, head_of, task_item, group_item}
 use Rattle.run_stages.specs.Allowed.{IsAllowed, take_whole, take_fragment, match_whole, match_group, nothing_queued, nothing_pooled, fill, linked, ready, walk, Appends, gives, next_batch, new_bytes, new_total, new_word}
 use Rattle.serial_terms.specs.Serial.{outside, in_child}
 use Rattle.run_stages.specs.Stages.{IsLawful}
@@ -133,7 +133,7 @@ module _ (w : Work) where
 
   module _ (s t : State) (l : IsLawful w s) where
     held_some : (i : ℕ) → 0 < (s.pools 0).count i → 0 < (s.pools 0).held
-    held_some i m = some_held w (s.cells 0) (s.pools 0) (s.queues 0) (s.maps 0) (s.maps 1) (s.logs 0).items l.matched l.chain l.stages i m
+    held_some i m = some_held l.stages i m
 
     -- a task was taken, calls aside were made, and an item was put into the queue or not
     took : (i : ℕ) (bs es : List Done) → Each (λ d. IsAside d.call) bs → MayEnqueue es → Runs s (outside (Take 0) (Value i) ∷ (bs ++ es)) t → Balance s (outside (Take 0) (Value i) ∷ (bs ++ es)) t
@@ -196,12 +196,12 @@ module _ (w : Work) where
     tasks : all_tasks_taken es + (t.pools 0).held + given_count w (s.cells 0) ≡ (s.pools 0).held + given_count w (t.cells 0)
     items : all_items_taken es + length (t.queues 0).items ≤ length (s.queues 0).items + all_tasks_taken es
 
-  over_run : IsPlan w → (es : List (Entry Done)) (s t : State) → IsLawful w s → Each (λ e. IsAllowed w e.dones) es → IsLegalRun s es t → Bound s es t
+  over_run : IsSoundWork w → (es : List (Entry Done)) (s t : State) → IsLawful w s → Each (λ e. IsAllowed w e.dones) es → IsLegalRun s es t → Bound s es t
   over_run p [] s t l a r = let b = stayed s t l [] refl refl r in let x = b.tasks in let y = b.items in record { lawful = subst (IsLawful w) r l; tasks = omega arith; items = omega arith }
   over_run p (e ∷ es) s t l a r = let m = steps w p e.dones a.0 s r.0 l r.1 in let b = balance s r.0 l e.dones a.0 r.1 in let i = over_run p es r.0 t m a.1 r.4 in
       let x = b.tasks in let y = b.items in let z = i.tasks in let v = i.items in record { lawful = i.lawful; tasks = omega arith; items = omega arith }
 
-  from_opening : IsPlan w → (findings : ℕ) (es : List (Entry Done)) (t : State) → IsRunOfWork w findings es t → Bound (opening w findings) es t
+  from_opening : IsSoundWork w → (findings : ℕ) (es : List (Entry Done)) (t : State) → IsRunOfWork w findings es t → Bound (opening w findings) es t
   from_opening p findings es t r = over_run p es (opening w findings) t (opens w findings) r.allowed r.run
 
   opening_held : (findings : ℕ) → ((opening w findings).pools 0).held ≡ given_count w 0

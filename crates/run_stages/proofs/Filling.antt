@@ -18,7 +18,7 @@ zero_or x n = grind arith
 abbrev pub pool_with : Pool → List ℕ → Pool
 pool_with p xs = record { count = λ i. p.count i + times i xs; held = p.held + length xs; slots = p.slots }
 
-module _ (w : Work) (f : ℕ) (pool : Pool) (queue : Sequence) (words links : ℕ → Option ℕ) (log matched : List ℕ) (chain : ℕ → List ℕ) (g : Stages w f pool queue words links log matched chain)
+module _ {w : Work} {f : ℕ} {pool : Pool} {queue : Sequence} {words links : ℕ → Option ℕ} {log matched : List ℕ} {chain : ℕ → List ℕ} (g : Stages w f pool queue words links log matched chain)
     (short : 4096 * (f + 1) < length w.tasks) (empty : length queue.items ≡ 0) (slots : pool.held + length (next_batch w f) ≤ pool.slots) where
   was_given : given_count w f ≡ 4096 * (f + 1)
   was_given = omega arith

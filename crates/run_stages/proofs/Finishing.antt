@@ -7,7 +7,7 @@ use native.Mathlib.Decide.{ℕ_discrete}
 use Rattle.serial_terms.specs.Counts.{times}
 use Rattle.serial_terms.specs.Serial.{State}
 use Rattle.serial_terms.proofs.Pools.{times_append}
-use Rattle.run_stages.specs.Work.{Work, IsPlan, IsMember, given_count, task_item, group_item, item_values, values_of}
+use Rattle.run_stages.specs.Work.{Work, IsSoundWork, IsMember, given_count, task_item, group_item, item_values, values_of}
 use Rattle.run_stages.specs.Stages.{IsAdded, IsLawful, chain_word}
 use Rattle.run_stages.specs.Ends.{IsFinished, AreAllDatagrams, IsIncomplete}
 use Rattle.run_stages.specs.Laws.{FinishedFindsAll, FinishedKeepsIncomplete}
@@ -38,7 +38,7 @@ same_values w (x ∷ xs) ys e =
     subst (λ (z : List ℕ). IsPermutation (v ++ values_of w xs) z) (sym whole) (IsPermutation-trans (v ++ values_of w xs) (v ++ (b ++ c)) (b ++ (v ++ c)) first second)
 
 -- each number is a task's item or a group's
-item_cases : (x : ℕ) → ((i : ℕ) × (x ≡ task_item i)) ⊎ ((h : ℕ) × (x ≡ group_item h))
+pub item_cases : (x : ℕ) → ((i : ℕ) × (x ≡ task_item i)) ⊎ ((h : ℕ) × (x ≡ group_item h))
 item_cases x = dite (ℕ_discrete (x % 2) 0) (λ e. inl (x / 2, omega arith)) (λ e. inr (x / 2, omega arith))
 
 zero_or : (x : ℕ) → (0 < x → ⊥) → x ≡ 0
@@ -85,7 +85,7 @@ module _ (w : Work) (s : State) (l : IsLawful w s) (e : IsFinished w s) where
   -- ---- the maps
 
   -- a group with a task in its chain isn't complete
-  chained_incomplete : IsPlan w → (h i : ℕ) → 0 < times i (l.chain h) → IsIncomplete w h
+  chained_incomplete : IsSoundWork w → (h i : ℕ) → 0 < times i (l.chain h) → IsIncomplete w h
   chained_incomplete p h i m = let o = l.stages.only_chained h i m in record { below = p.numbered h i o.0.member; lacking = λ c. let a = all_matched.group h c in let z = o.1 in absurd (omega arith) }
 
   word_chained : (h x : ℕ) → s.maps 0 h ≡ Some x → (i : ℕ) × (0 < times i (l.chain h))
@@ -95,7 +95,7 @@ module _ (w : Work) (s : State) (l : IsLawful w s) (e : IsFinished w s) where
       first [] q = absurd (cc)
       first (i ∷ c) q = (i, let a = times_cons_same i i c refl in omega arith)
 
-  incomplete_word : IsPlan w → (h : ℕ) → IsIncomplete w h → IsSome (s.maps 0 h)
+  incomplete_word : IsSoundWork w → (h : ℕ) → IsIncomplete w h → IsSome (s.maps 0 h)
   incomplete_word p h n = let i = p.inhabited h n.below in
       let none : times (group_item h) l.matched ≡ 0 = zero_or (times (group_item h) l.matched) (λ m. n.lacking (all_matched.only_group h m)) in
       let there = l.stages.chained h i.0 (added h i.0 i.1) none in
@@ -105,7 +105,7 @@ module _ (w : Work) (s : State) (l : IsLawful w s) (e : IsFinished w s) where
       has [] i q = absurd (omega arith)
       has (j ∷ c) i q = refl
 
-  pub incomplete_alone : IsPlan w → ((h x : ℕ) → s.maps 0 h ≡ Some x → IsIncomplete w h) × ((h : ℕ) → IsIncomplete w h → IsSome (s.maps 0 h)) × ((i j : ℕ) → s.maps 1 i ≡ Some j → (h : ℕ) × IsMember w h i × IsIncomplete w h)
+  pub incomplete_alone : IsSoundWork w → ((h x : ℕ) → s.maps 0 h ≡ Some x → IsIncomplete w h) × ((h : ℕ) → IsIncomplete w h → IsSome (s.maps 0 h)) × ((i j : ℕ) → s.maps 1 i ≡ Some j → (h : ℕ) × IsMember w h i × IsIncomplete w h)
   incomplete_alone p = (
     (λ h x y. let c = word_chained h x y in chained_incomplete p h c.0 c.1),
     incomplete_word p,

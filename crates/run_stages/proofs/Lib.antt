@@ -11,3 +11,4 @@ pub mod Finishing
 pub mod Bounds
 pub mod Worked
 pub mod Batches
+pub mod Telling

@@ -35,7 +35,7 @@ lead_same w links more (i ∷ j ∷ is) e l = (
   lead_same w links more (j ∷ is) (λ k m. e k (dite (ℕ_discrete k i) (λ y. let a = times_cons_same k i (j ∷ is) y in omega arith) (λ y. let a = times_cons_other k i (j ∷ is) y in omega arith))) l.1,
 )
 
-module _ (w : Work) (f : ℕ) (pool : Pool) (queue : Sequence) (words links : ℕ → Option ℕ) (log matched : List ℕ) (chain : ℕ → List ℕ) (g : Stages w f pool queue words links log matched chain) (rest : List ℕ) where
+module _ {w : Work} {f : ℕ} {pool : Pool} {queue : Sequence} {words links : ℕ → Option ℕ} {log matched : List ℕ} {chain : ℕ → List ℕ} (g : Stages w f pool queue words links log matched chain) (rest : List ℕ) where
   -- a whole task's item is matched
   module _ (i : ℕ) (e : queue.items ≡ task_item i ∷ rest) where
     here : (x : ℕ) → x ≡ task_item i → times x queue.items ≡ 1 + times x rest

@@ -9,33 +9,27 @@ use Rattle.serial_terms.specs.Histories.{Runs}
 use Rattle.serial_terms.specs.Serial.{State, less, put_map, put_queue, put_cell, rest, IsReplied, step}
 use Rattle.serial_terms.proofs.Basics.{with_at_same, with_at_other, with_at_own}
 use Rattle.serial_terms.proofs.Running.{run_split}
-use Rattle.run_stages.specs.Work.{Work, IsPlan, IsWhole, IsMember, task_item, group_item, group_word, head_of}
+use Rattle.run_stages.specs.Work.{Work, IsSoundWork, IsWhole, IsMember, task_item, group_item, group_word, head_of}
 use Rattle.run_stages.specs.Allowed.{take_whole, take_fragment, match_whole, match_group, nothing_queued, nothing_pooled, fill, added, ready, walk, Appends, gives, next_batch, new_bytes, new_total, new_word}
 use Rattle.serial_terms.specs.Serial.{outside, in_child}
 use Rattle.run_stages.specs.Stages.{Stages, IsLawful, LeadThrough, chain_bytes, chain_total, chain_word}
 use Rattle.run_stages.specs.Laws.{AllowedKeepsLawful}
 use Rattle.run_stages.proofs.Taking.{whole_taken}
 use Rattle.run_stages.proofs.Matching.{whole_matched, group_matched, lead_same}
-use Rattle.run_stages.proofs.Chains.{word_head, bytes_le, total_short}
-use Rattle.run_stages.proofs.Adding.{chain_members, chain_once, not_chained, not_linked, bytes_now, total_now, ready_if, ready_then, fragment_added, IsReady}
+use Rattle.run_stages.proofs.Adding.{heads, chain_once, not_chained, not_linked, bytes_now, total_now, ready_if, ready_then, fragment_added, IsReady}
 use Rattle.run_stages.proofs.Filling.{filled}
 use Rattle.run_stages.proofs.Runs.{found_same, found_value, first_value, appends_run, gives_run, ready_run, walk_run, with_links}
-
--- a chain's word shows its head
-chain_head : (w : Work) (c : List ℕ) (x : ℕ) → chain_word w c ≡ Some x → (j : ℕ) × (js : List ℕ) × (c ≡ j ∷ js) × (x ≡ group_word j (chain_bytes w (j ∷ js)) (chain_total w (j ∷ js)))
-chain_head w [] x e = absurd (cc)
-chain_head w (j ∷ js) x e = let y : x ≡ group_word j (chain_bytes w (j ∷ js)) (chain_total w (j ∷ js)) = cc in (j, js, refl, y)
 
 no_chain : (w : Work) (c : List ℕ) → chain_word w c ≡ None → c ≡ []
 no_chain w [] e = refl
 no_chain w (j ∷ js) e = absurd (cc)
 
-module _ (w : Work) (p : IsPlan w) (s : State) (l : IsLawful w s) where
+module _ (w : Work) (p : IsSoundWork w) (s : State) (l : IsLawful w s) where
   took_whole : (i : ℕ) (t : State) → IsWhole w i → Runs s (outside (Take 0) (Value i) ∷ in_child (Enqueue 0 (task_item i)) Nothing ∷ []) t → IsLawful w t
   took_whole i t a r = subst (IsLawful w) r.1.1 (record {
     matched = l.matched;
     chain = l.chain;
-    stages = whole_taken w (s.cells 0) (s.pools 0) (s.queues 0) (s.maps 0) (s.maps 1) (s.logs 0).items l.matched l.chain l.stages i r.0 a;
+    stages = whole_taken l.stages i r.0 a;
   })
 
   matched_whole : (i : ℕ) (more : List Done) (t : State) → Appends w (w.task_values i) more → Runs s (outside (Dequeue 0) (Value (task_item i)) ∷ more) t → IsLawful w t
@@ -44,7 +38,7 @@ module _ (w : Work) (p : IsPlan w) (s : State) (l : IsLawful w s) where
       subst (IsLawful w) e (record {
         matched = l.matched ++ task_item i ∷ [];
         chain = l.chain;
-        stages = whole_matched w (s.cells 0) (s.pools 0) (s.queues 0) (s.maps 0) (s.maps 1) (s.logs 0).items l.matched l.chain l.stages (rest (s.queues 0).items) i (q.1 ∙ ap (λ (z : List ℕ). task_item i ∷ z) (sym (ap rest q.1)));
+        stages = whole_matched l.stages (rest (s.queues 0).items) i (q.1 ∙ ap (λ (z : List ℕ). task_item i ∷ z) (sym (ap rest q.1)));
       })
 
   matched_group : (h x : ℕ) (before : List ℕ) (more : List Done) (t : State) → Appends w (w.group_values h) more
@@ -52,19 +46,17 @@ module _ (w : Work) (p : IsPlan w) (s : State) (l : IsLawful w s) where
   matched_group h x before more t a r =
       let g = l.stages in
       let q = first_value (group_item h) (s.queues 0).items r.0 in
-      let c = chain_head w (l.chain h) x (sym (g.word h) ∙ found_value x (s.maps 0 h) r.1.0) in
-      let members : (j : ℕ) → 0 < times j (c.0 ∷ c.1) → IsMember w h j = λ j m. chain_members w (s.cells 0) (s.pools 0) (s.queues 0) (s.maps 0) (s.maps 1) (s.logs 0).items l.matched l.chain g h j (let b = ap (times j) c.2 in omega arith) in
-      let once : (j : ℕ) → times j (c.0 ∷ c.1) ≤ 1 = λ j. (let o = chain_once w (s.cells 0) (s.pools 0) (s.queues 0) (s.maps 0) (s.maps 1) (s.logs 0).items l.matched l.chain g h j in let b = ap (times j) c.2 in omega arith) in
-      let head : head_of x ≡ c.0 = ap head_of c.3 ∙ word_head c.0 (chain_bytes w (c.0 ∷ c.1)) (chain_total w (c.0 ∷ c.1)) (let b = bytes_le w h (c.0 ∷ c.1) members once in let k = p.bounded h in omega arith) (total_short w p h (c.0 ∷ c.1) members) in
+      let c = heads g p h x (found_value x (s.maps 0 h) r.1.0) in
+      let once : (j : ℕ) → times j (head_of x ∷ c.0) ≤ 1 = λ j. (let o = chain_once g h j in let b = ap (times j) c.1 in omega arith) in
       let u : State = put_map (put_queue s 0 (rest (s.queues 0).items)) 0 h None in
       let two = run_split IsReplied step (walk w (head_of x) before) more u t r.1.1.1 in
-      let v = walk_run w c.1 c.0 before u two.0 (subst (LeadThrough w (s.maps 1)) c.2 (g.lead h)) once (subst (λ (z : ℕ). Runs u (walk w z before) two.0) head two.1) in
+      let v = walk_run w c.0 (head_of x) before u two.0 (subst (LeadThrough w (s.maps 1)) c.1 (g.lead h)) once two.1 in
       let e = appends_run w (w.group_values h) more (with_links u v.fewer) t a (subst (λ (z : State). Runs z more t) (sym v.state) two.2) in
       subst (IsLawful w) e (record {
         matched = l.matched ++ group_item h ∷ [];
         chain = with_at l.chain h [];
-        stages = group_matched w (s.cells 0) (s.pools 0) (s.queues 0) (s.maps 0) (s.maps 1) (s.logs 0).items l.matched l.chain g (rest (s.queues 0).items) h (q.1 ∙ ap (λ (z : List ℕ). group_item h ∷ z) (sym (ap rest q.1))) v.fewer
-            (λ j m. v.cleared j (let b = ap (times j) c.2 in omega arith)) (λ j m. v.kept j (let b = ap (times j) c.2 in omega arith));
+        stages = group_matched g (rest (s.queues 0).items) h (q.1 ∙ ap (λ (z : List ℕ). group_item h ∷ z) (sym (ap rest q.1))) v.fewer
+            (λ j m. v.cleared j (let b = ap (times j) c.1 in omega arith)) (λ j m. v.kept j (let b = ap (times j) c.1 in omega arith));
       })
 
   filled_up : (f : ℕ) (t : State) → 4096 * (f + 1) < length w.tasks
@@ -79,7 +71,7 @@ module _ (w : Work) (p : IsPlan w) (s : State) (l : IsLawful w s) where
       subst (IsLawful w) e.0 (record {
         matched = l.matched;
         chain = l.chain;
-        stages = filled w f (s.pools 0) (s.queues 0) (s.maps 0) (s.maps 1) (s.logs 0).items l.matched l.chain stages short empty e.1;
+        stages = filled stages short empty e.1;
       })
 
   -- ---- a fragment is added
@@ -88,16 +80,16 @@ module _ (w : Work) (p : IsPlan w) (s : State) (l : IsLawful w s) where
     -- what is left once the links are as they are to be
     module _ (old : Option ℕ) (is : old ≡ s.maps 0 h) (links : ℕ → Option ℕ) (lead : LeadThrough w links (i ∷ l.chain h)) (kept : (j : ℕ) → j ≢ i → links j ≡ s.maps 1 j) where
       bytes : new_bytes w i old ≡ chain_bytes w (i ∷ l.chain h)
-      bytes = ap (new_bytes w i) is ∙ bytes_now w (s.cells 0) (s.pools 0) (s.queues 0) (s.maps 0) (s.maps 1) (s.logs 0).items l.matched l.chain l.stages p h i m there
+      bytes = ap (new_bytes w i) is ∙ bytes_now l.stages p h i m there
 
       total : new_total w i old ≡ chain_total w (i ∷ l.chain h)
-      total = ap (new_total w i) is ∙ total_now w (s.cells 0) (s.pools 0) (s.queues 0) (s.maps 0) (s.maps 1) (s.logs 0).items l.matched l.chain l.stages p h i m there
+      total = ap (new_total w i) is ∙ total_now l.stages p h i m there
 
       word : Some (new_word w i old) ≡ chain_word w (i ∷ l.chain h)
       word = λ x. Some (group_word i (bytes x) (total x))
 
       abbrev Ready : Type 0
-      Ready = IsReady w (s.cells 0) (s.pools 0) (s.queues 0) (s.maps 0) (s.maps 1) (s.logs 0).items l.matched l.chain l.stages p h i m there
+      Ready = IsReady l.stages p h i m there
 
       -- the state before the group's item may be put into the queue
       abbrev before : State
@@ -105,7 +97,7 @@ module _ (w : Work) (p : IsPlan w) (s : State) (l : IsLawful w s) where
 
       lawful_with : (items : List ℕ) → (Ready × (items ≡ (s.queues 0).items ++ group_item h ∷ [])) ⊎ ((Ready → ⊥) × (items ≡ (s.queues 0).items))
           → Stages w (s.cells 0) (less (s.pools 0) i) (record { items = items; capacity = (s.queues 0).capacity }) (with_at (s.maps 0) h (Some (new_word w i old))) links (s.logs 0).items l.matched (with_at l.chain h (i ∷ l.chain h))
-      lawful_with items q = fragment_added w (s.cells 0) (s.pools 0) (s.queues 0) (s.maps 0) (s.maps 1) (s.logs 0).items l.matched l.chain l.stages p h i m there (new_word w i old) word links lead kept items q
+      lawful_with items q = fragment_added l.stages p h i m there (new_word w i old) word links lead kept items q
 
       pub then_ready : (t : State) → Runs before (ready w h (new_bytes w i old) (new_total w i old)) t → IsLawful w t
       then_ready t r = ⊎_elim
@@ -113,13 +105,13 @@ module _ (w : Work) (p : IsPlan w) (s : State) (l : IsLawful w s) where
             matched = l.matched;
             chain = with_at l.chain h (i ∷ l.chain h);
             stages = lawful_with ((s.queues 0).items ++ group_item h ∷ [])
-                (inl (ready_if w (s.cells 0) (s.pools 0) (s.queues 0) (s.maps 0) (s.maps 1) (s.logs 0).items l.matched l.chain l.stages p h i m there (sym bytes ∙ (y.0 ∙ total)) (λ z. y.1 (total ∙ z)), refl));
+                (inl (ready_if l.stages p h i m there (sym bytes ∙ (y.0 ∙ total)) (λ z. y.1 (total ∙ z)), refl));
           }))
           (λ y. subst (IsLawful w) y.1 (record {
             matched = l.matched;
             chain = with_at l.chain h (i ∷ l.chain h);
             stages = lawful_with (s.queues 0).items
-                (inr ((λ k. let z = ready_then w (s.cells 0) (s.pools 0) (s.queues 0) (s.maps 0) (s.maps 1) (s.logs 0).items l.matched l.chain l.stages p h i m there k in y.0 (bytes ∙ (z.0 ∙ sym total)) (λ x. z.1 (sym total ∙ x))), refl));
+                (inr ((λ k. let z = ready_then l.stages p h i m there k in y.0 (bytes ∙ (z.0 ∙ sym total)) (λ x. z.1 (sym total ∙ x))), refl));
           }))
           (ready_run w h (new_bytes w i old) (new_total w i old) before t r)
 
@@ -131,21 +123,17 @@ module _ (w : Work) (p : IsPlan w) (s : State) (l : IsLawful w s) where
     took_fragment None t r =
         let e : None ≡ s.maps 0 h = found_same None (s.maps 0 h) r.1.0 in
         let c : l.chain h ≡ [] = no_chain w (l.chain h) (sym (l.stages.word h) ∙ sym e) in
-        let lead : LeadThrough w (s.maps 1) (i ∷ l.chain h) = subst (λ (z : List ℕ). LeadThrough w (s.maps 1) (i ∷ z)) (sym c) (option_cases (s.maps 1 i) (not_linked w (s.cells 0) (s.pools 0) (s.queues 0) (s.maps 0) (s.maps 1) (s.logs 0).items l.matched l.chain l.stages p h i m there)) in
+        let lead : LeadThrough w (s.maps 1) (i ∷ l.chain h) = subst (λ (z : List ℕ). LeadThrough w (s.maps 1) (i ∷ z)) (sym c) (option_cases (s.maps 1 i) (not_linked l.stages p h i m there)) in
         let words : ℕ → ℕ → Option ℕ = with_at s.maps 0 (with_at (s.maps 0) h (Some (new_word w i None))) in
         let back : record s { pools = with_at s.pools 0 (less (s.pools 0) i); maps = words } ≡ before None e (s.maps 1) lead (λ j n. refl) = λ x. record s { pools = with_at s.pools 0 (less (s.pools 0) i); maps = sym (with_at_own words 1) x } in
         then_ready None e (s.maps 1) lead (λ j n. refl) t (subst (λ (z : State). Runs z (ready w h (new_bytes w i None) (new_total w i None)) t) back r.1.1.1)
     took_fragment (Some x) t r =
         let e : Some x ≡ s.maps 0 h = found_same (Some x) (s.maps 0 h) r.1.0 in
-        let c = chain_head w (l.chain h) x (sym (l.stages.word h) ∙ sym e) in
-        let members : (j : ℕ) → 0 < times j (c.0 ∷ c.1) → IsMember w h j = λ j y. chain_members w (s.cells 0) (s.pools 0) (s.queues 0) (s.maps 0) (s.maps 1) (s.logs 0).items l.matched l.chain l.stages h j (let b = ap (times j) c.2 in omega arith) in
-        let once : (j : ℕ) → times j (c.0 ∷ c.1) ≤ 1 = λ j. (let o = chain_once w (s.cells 0) (s.pools 0) (s.queues 0) (s.maps 0) (s.maps 1) (s.logs 0).items l.matched l.chain l.stages h j in let b = ap (times j) c.2 in omega arith) in
-        let head : head_of x ≡ c.0 = ap head_of c.3 ∙ word_head c.0 (chain_bytes w (c.0 ∷ c.1)) (chain_total w (c.0 ∷ c.1)) (let b = bytes_le w h (c.0 ∷ c.1) members once in let k = p.bounded h in omega arith) (total_short w p h (c.0 ∷ c.1) members) in
-        let lead : LeadThrough w (with_at (s.maps 1) i (Some (head_of x))) (i ∷ l.chain h) = subst (λ (z : List ℕ). LeadThrough w (with_at (s.maps 1) i (Some (head_of x))) (i ∷ z)) (sym c.2) (
-          with_at_same (s.maps 1) i (Some (head_of x)) i refl ∙ ap (λ (z : ℕ). Some z) head,
-          lead_same w (s.maps 1) (with_at (s.maps 1) i (Some (head_of x))) (c.0 ∷ c.1)
-              (λ j y. with_at_other (s.maps 1) i (Some (head_of x)) j (λ z. let a = not_chained w (s.cells 0) (s.pools 0) (s.queues 0) (s.maps 0) (s.maps 1) (s.logs 0).items l.matched l.chain l.stages p h i m there h in let b = ap (times j) c.2 in let d = ap (λ (k : ℕ). times k (l.chain h)) z in omega arith))
-              (subst (LeadThrough w (s.maps 1)) c.2 (l.stages.lead h)),
+        let c = heads l.stages p h x (sym e) in
+        let far : (j : ℕ) → 0 < times j (head_of x ∷ c.0) → j ≢ i = λ j y z. (let a = not_chained l.stages p h i m there h in let b = ap (times j) c.1 in let d = ap (λ (k : ℕ). times k (l.chain h)) z in omega arith) in
+        let lead : LeadThrough w (with_at (s.maps 1) i (Some (head_of x))) (i ∷ l.chain h) = subst (λ (z : List ℕ). LeadThrough w (with_at (s.maps 1) i (Some (head_of x))) (i ∷ z)) (sym c.1) (
+          with_at_same (s.maps 1) i (Some (head_of x)) i refl,
+          lead_same w (s.maps 1) (with_at (s.maps 1) i (Some (head_of x))) (head_of x ∷ c.0) (λ j y. with_at_other (s.maps 1) i (Some (head_of x)) j (far j y)) (subst (LeadThrough w (s.maps 1)) c.1 (l.stages.lead h)),
         ) in
         then_ready (Some x) e (with_at (s.maps 1) i (Some (head_of x))) lead (λ j n. with_at_other (s.maps 1) i (Some (head_of x)) j n) t r.1.1.1.1
 

@@ -18,7 +18,7 @@ whole_no_member w h i a b = let c : None ≡ Some h = sym a.alone ∙ b.belongs 
 pub one_group : (w : Work) (h k i : ℕ) → IsMember w h i → IsMember w k i → h ≡ k
 one_group w h k i a b = let c : Some h ≡ Some k = sym a.belongs ∙ b.belongs in cc
 
-module _ (w : Work) (f : ℕ) (pool : Pool) (queue : Sequence) (words links : ℕ → Option ℕ) (log matched : List ℕ) (chain : ℕ → List ℕ) (g : Stages w f pool queue words links log matched chain) (i : ℕ) (there : 0 < pool.count i) where
+module _ {w : Work} {f : ℕ} {pool : Pool} {queue : Sequence} {words links : ℕ → Option ℕ} {log matched : List ℕ} {chain : ℕ → List ℕ} (g : Stages w f pool queue words links log matched chain) (i : ℕ) (there : 0 < pool.count i) where
   pub one_there : pool.count i ≡ 1
   one_there = let a = g.once i in omega arith
 

@@ -8,7 +8,7 @@ use Rattle.serial_terms.specs.Histories.{IsLegalHistory}
 use Rattle.serial_terms.specs.Serial.{less}
 use Rattle.serial_terms.specs.Stores.{opening_of}
 use Rattle.serial_terms.proofs.Showing.{in_order, all_apart}
-use Rattle.run_stages.specs.Work.{IsPlan, IsWhole, IsMember, piece, end_of, group_bytes}
+use Rattle.run_stages.specs.Work.{IsSoundWork, IsWhole, IsMember, task, end_of, group_bytes}
 use Rattle.serial_terms.specs.declared.call.Call.TheVariants.{AppendPlaced}
 use Rattle.serial_terms.specs.declared.call.Reply.TheVariants.{Value}
 use Rattle.serial_terms.proofs.Basics.{if_false}
@@ -19,15 +19,15 @@ use Rattle.run_stages.specs.Worked.{one_frame, one_frame_records, two_fragments,
 use Rattle.run_stages.proofs.Bounds.{end_lawful}
 use Rattle.serial_terms.proofs.Stepping.{opening_within, queue_within, log_within, pool_within, AreLegal, legal, after_records, counted_alone}
 
-one_group : (i : ℕ) → (piece one_frame i).group ≡ None
+one_group : (i : ℕ) → (task one_frame i).group ≡ None
 one_group zero = refl
 one_group (suc i) = refl
 
 no_member : (h i : ℕ) → IsMember one_frame h i → ⊥
 no_member h i m = let e : None ≡ Some h = sym (one_group i) ∙ m.belongs in absurd (cc)
 
-one_frame_plan : IsPlan one_frame
-one_frame_plan = record {
+one_frame_sound : IsSoundWork one_frame
+one_frame_sound = record {
   numbered = λ h i m. absurd (no_member h i m);
   inhabited = λ h l. absurd (omega arith);
   filled = λ h i m. absurd (no_member h i m);
@@ -101,11 +101,11 @@ one_frame_history = record {
 one_frame_run : IsWholeRun one_frame 65536 one_frame_records (8 ∷ [])
 unfolding opening_of layout_of
 one_frame_run = record {
-  plan = one_frame_plan;
+  sound = one_frame_sound;
   end = after_records (opening one_frame 65536) one_frame_records;
   history = one_frame_history;
   allowed = one_frame_allowed;
-  lawful = end_lawful one_frame one_frame_plan 65536 one_frame_records (after_records (opening one_frame 65536) one_frame_records) (record { run = one_frame_history.run; allowed = one_frame_allowed });
+  lawful = end_lawful one_frame one_frame_sound 65536 one_frame_records (after_records (opening one_frame 65536) one_frame_records) (record { run = one_frame_history.run; allowed = one_frame_allowed });
   finished = record { pool = refl; queue = refl; given = lit≤ tt };
   found = refl;
 }
@@ -128,7 +128,7 @@ member0 = record { below = lit< tt; belongs = refl }
 member1 : IsMember two_fragments 0 1
 member1 = record { below = lit< tt; belongs = refl }
 
-last_is_first : (i : ℕ) → i < 2 → (piece two_fragments i).last ≡ true → i ≡ 0
+last_is_first : (i : ℕ) → i < 2 → (task two_fragments i).last ≡ true → i ≡ 0
 last_is_first zero l e = refl
 last_is_first (suc zero) l e = absurd (cc)
 last_is_first (suc (suc i)) l e = absurd (omega arith)
@@ -139,11 +139,11 @@ two_bytes h = dite (ℕ_discrete 0 h) (λ e. subst (λ (z : ℕ). group_bytes tw
     few : (a b : ℕ) → a ≡ 0 → b ≡ 0 → 0 + a + b ≤ 12
     few a b e f = omega arith
 
-two_fragments_plan : IsPlan two_fragments
-two_fragments_plan = record {
+two_fragments_sound : IsSoundWork two_fragments
+two_fragments_sound = record {
   numbered = λ h i m. let e = (two_groups i h m).1 in omega arith;
   inhabited = λ h l. (0, record { below = lit< tt; belongs = (let e : 0 ≡ h = omega arith in ap (λ (z : ℕ). Some z) e) });
-  filled = λ h i m. two_cases (λ i. 0 < (piece two_fragments i).size) (lit< tt) (lit< tt) i (two_groups i h m).0;
+  filled = λ h i m. two_cases (λ i. 0 < (task two_fragments i).size) (lit< tt) (lit< tt) i (two_groups i h m).0;
   short = λ h i m. two_cases (λ i. end_of two_fragments i < 65536) (lit< tt) (lit< tt) i (two_groups i h m).0;
   one_last = λ h i j a b x y. last_is_first i (two_groups i h a).0 x ∙ sym (last_is_first j (two_groups j h b).0 y);
   packed = λ h i m l. let e = last_is_first i (two_groups i h m).0 l in subst (λ (z : ℕ). group_bytes two_fragments h ≤ end_of two_fragments z) (sym e) (two_bytes h);
@@ -227,11 +227,11 @@ two_fragments_history = record {
 two_fragments_run : IsWholeRun two_fragments 65536 two_fragments_records (6 ∷ [])
 unfolding opening_of layout_of
 two_fragments_run = record {
-  plan = two_fragments_plan;
+  sound = two_fragments_sound;
   end = after_records (opening two_fragments 65536) two_fragments_records;
   history = two_fragments_history;
   allowed = two_fragments_allowed;
-  lawful = end_lawful two_fragments two_fragments_plan 65536 two_fragments_records (after_records (opening two_fragments 65536) two_fragments_records) (record { run = two_fragments_history.run; allowed = two_fragments_allowed });
+  lawful = end_lawful two_fragments two_fragments_sound 65536 two_fragments_records (after_records (opening two_fragments 65536) two_fragments_records) (record { run = two_fragments_history.run; allowed = two_fragments_allowed });
   finished = record { pool = refl; queue = refl; given = lit≤ tt };
   found = refl;
 }

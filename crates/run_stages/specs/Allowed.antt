@@ -4,21 +4,21 @@ use Rattle.serial_terms.specs.declared.call.Call.TheVariants.{MapGet, MapPut, Ma
 use Rattle.serial_terms.specs.declared.call.Reply.TheVariants.{Nothing, Absent, Value, Flag}
 use Rattle.serial_terms.specs.declared.call.Done.{Done}
 use Rattle.serial_terms.specs.Serial.{outside, in_child, found}
-use Rattle.run_stages.specs.Work.{Work, piece, IsWhole, IsMember, end_of, given_count, numbers_from, task_item, group_item, group_word, head_of, bytes_of, total_of}
+use Rattle.run_stages.specs.Work.{Work, task, IsWhole, IsMember, end_of, given_count, numbers_from, task_item, group_item, group_word, head_of, bytes_of, total_of}
 
 module _ (w : Work) where
   -- ---- a fragment is added to its group, whose old word is there or not
 
   abbrev pub new_bytes : ℕ → Option ℕ → ℕ
-  new_bytes i None = (piece w i).size
-  new_bytes i (Some x) = (piece w i).size + bytes_of x
+  new_bytes i None = (task w i).size
+  new_bytes i (Some x) = (task w i).size + bytes_of x
 
   abbrev pub old_total : Option ℕ → ℕ
   old_total None = 0
   old_total (Some x) = total_of x
 
   abbrev pub new_total : ℕ → Option ℕ → ℕ
-  new_total i old = if (piece w i).last then end_of w i else old_total old
+  new_total i old = if (task w i).last then end_of w i else old_total old
 
   abbrev pub new_word : ℕ → Option ℕ → ℕ
   new_word i old = group_word i (new_bytes i old) (new_total i old)

@@ -5,17 +5,17 @@ use Rattle.serial_terms.specs.declared.call.Reply.TheVariants.{Nothing, Value}
 use Rattle.serial_terms.specs.declared.call.Done.{Done}
 use Rattle.serial_terms.specs.Entries.{Entry}
 use Rattle.serial_terms.specs.Serial.{State}
-use Rattle.run_stages.specs.Work.{Work, IsPlan, task_item}
+use Rattle.run_stages.specs.Work.{Work, IsSoundWork, task_item}
 use Rattle.run_stages.specs.Allowed.{gives, next_batch}
 use Rattle.serial_terms.specs.Serial.{outside, in_child}
 use Rattle.run_stages.specs.Stages.{IsLawful}
 use Rattle.run_stages.specs.Opening.{IsRunOfWork}
 use Rattle.run_stages.specs.Ends.{IsFinished}
-use Rattle.run_stages.specs.Worked.{written, read_only, no_item, no_task, whole_piece}
+use Rattle.run_stages.specs.Worked.{written, read_only, no_item, no_task, whole_task}
 
 -- n whole frames, in each of which rule 0 finds its first pattern at place 8
 unfoldable pub frames : ℕ → Work
-frames n = record { tasks = replicate n whole_piece; groups = 0; task_values = λ i. (i * 2 ^ 32 + 8) ∷ []; group_values = λ h. [] }
+frames n = record { tasks = replicate n whole_task; groups = 0; task_values = λ i. (i * 2 ^ 32 + 8) ∷ []; group_values = λ h. [] }
 
 -- the turns of one worker over k tasks from the task i on: nothing is to be matched, the task is taken, and it is matched
 unfoldable pub turns : ℕ → ℕ → ℕ → ℕ → List (Entry Done)
@@ -39,4 +39,4 @@ batch_records n =
 
 -- the records of 4,097 frames, and of up to 8,192, are a run of allowed records that ends in a finished lawful state
 abbrev pub BatchesRun : Type 0
-BatchesRun = (n : ℕ) → 4096 < n → n ≤ 8192 → IsPlan (frames n) × ((end : State) × IsRunOfWork (frames n) 65536 (batch_records n) end × IsLawful (frames n) end × IsFinished (frames n) end)
+BatchesRun = (n : ℕ) → 4096 < n → n ≤ 8192 → IsSoundWork (frames n) × ((end : State) × IsRunOfWork (frames n) 65536 (batch_records n) end × IsLawful (frames n) end × IsFinished (frames n) end)

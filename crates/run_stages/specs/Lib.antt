@@ -6,3 +6,4 @@ pub mod Ends
 pub mod Laws
 pub mod Worked
 pub mod Batches
+pub mod Told

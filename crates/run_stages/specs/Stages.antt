@@ -2,18 +2,18 @@
 use Rattle.std.specs.Prelude.{◌≡◌, ℕ, ◌+◌, ◌<◌, ◌≤◌, List, [], ◌∷◌, length, Option, Some, None, if◌then◌else◌}
 use Rattle.serial_terms.specs.Counts.{times}
 use Rattle.serial_terms.specs.Serial.{State, Pool, Sequence}
-use Rattle.run_stages.specs.Work.{Work, piece, IsWhole, IsMember, IsComplete, end_of, room, given_count, total_below, task_item, group_item, group_word, values_of}
+use Rattle.run_stages.specs.Work.{Work, task, IsWhole, IsMember, IsComplete, end_of, room, given_count, total_below, task_item, group_item, group_word, values_of}
 
 module _ (w : Work) where
   -- ---- a group's tasks in the order in which they were added, the one added last first
 
   abbrev pub chain_bytes : List ℕ → ℕ
   chain_bytes [] = 0
-  chain_bytes (i ∷ is) = (piece w i).size + chain_bytes is
+  chain_bytes (i ∷ is) = (task w i).size + chain_bytes is
 
   abbrev pub chain_total : List ℕ → ℕ
   chain_total [] = 0
-  chain_total (i ∷ is) = if (piece w i).last then end_of w i else chain_total is
+  chain_total (i ∷ is) = if (task w i).last then end_of w i else chain_total is
 
   -- the word of a group with these tasks
   abbrev pub chain_word : List ℕ → Option ℕ

@@ -2,7 +2,7 @@
 use Rattle.std.specs.Prelude.{◌≡◌, ℕ, zero, suc, ◌+◌, ◌*◌, ◌/◌, ◌%◌, ◌^◌, ◌<◌, ◌≤◌, min, max, Bool, false, IsTrue, ◌==◌, List, [], ◌∷◌, ◌++◌, length, get_or, Option, Some, None, if◌then◌else◌}
 
 -- one task: a whole frame, which has no group, or a fragment of a group, from `start` on for `size` bytes, the last or not
-pub record Piece : Type 0 where
+pub record TaskFacts : Type 0 where
   pub group : Option ℕ
   pub start : ℕ
   pub size : ℕ
@@ -10,7 +10,7 @@ pub record Piece : Type 0 where
 
 -- the tasks by their numbers; the number of groups; and the values of the findings of each whole task and of each group
 pub record Work : Type 0 where
-  pub tasks : List Piece
+  pub tasks : List TaskFacts
   pub groups : ℕ
   pub task_values : ℕ → List ℕ
   pub group_values : ℕ → List ℕ
@@ -30,46 +30,46 @@ is_some_of (Some x) h = x == h
 is_some_of None h = false
 
 module _ (w : Work) where
-  abbrev pub piece : ℕ → Piece
-  piece i = get_or w.tasks i (record { group = None; start = 0; size = 0; last = false })
+  abbrev pub task : ℕ → TaskFacts
+  task i = get_or w.tasks i (record { group = None; start = 0; size = 0; last = false })
 
   -- the task i is a whole frame
   pub record IsWhole (i : ℕ) : Type 0 where
     pub below : i < length w.tasks
-    pub alone : (piece i).group ≡ None
+    pub alone : (task i).group ≡ None
 
   -- the task i is a fragment of the group h
   pub record IsMember (h i : ℕ) : Type 0 where
     pub below : i < length w.tasks
-    pub belongs : (piece i).group ≡ Some h
+    pub belongs : (task i).group ≡ Some h
 
   -- the place after a fragment's last byte
   abbrev pub end_of : ℕ → ℕ
-  end_of i = (piece i).start + (piece i).size
+  end_of i = (task i).start + (task i).size
 
   -- the bytes of all fragments of a group
   abbrev pub group_bytes : ℕ → ℕ
-  group_bytes h = total_below (λ i. if is_some_of (piece i).group h then (piece i).size else 0) (length w.tasks)
+  group_bytes h = total_below (λ i. if is_some_of (task i).group h then (task i).size else 0) (length w.tasks)
 
   -- one fragment of the group is last, and the lengths sum to its end
   pub record IsComplete (h : ℕ) : Type 0 where
     pub ender : ℕ
     pub member : IsMember h ender
-    pub last : IsTrue (piece ender).last
+    pub last : IsTrue (task ender).last
     pub full : group_bytes h ≡ end_of ender
 
   -- what a plan of tasks keeps of its groups. That the fragments of a group are disjoint and end where its last one ends,
   -- if it has one, is used through the sum of their lengths alone
-  pub record IsPlan : Type 0 where
+  pub record IsSoundWork : Type 0 where
     -- each group has a task, and no task another group
     pub numbered : (h i : ℕ) → IsMember h i → h < w.groups
     pub inhabited : (h : ℕ) → h < w.groups → (i : ℕ) × IsMember h i
     -- fragments have bytes, and end below 2^16
-    pub filled : (h i : ℕ) → IsMember h i → 0 < (piece i).size
+    pub filled : (h i : ℕ) → IsMember h i → 0 < (task i).size
     pub short : (h i : ℕ) → IsMember h i → end_of i < 2 ^ 16
     -- at most one is last, and the lengths sum to at most its end, or to less than 2^16
-    pub one_last : (h i j : ℕ) → IsMember h i → IsMember h j → IsTrue (piece i).last → IsTrue (piece j).last → i ≡ j
-    pub packed : (h i : ℕ) → IsMember h i → IsTrue (piece i).last → group_bytes h ≤ end_of i
+    pub one_last : (h i j : ℕ) → IsMember h i → IsMember h j → IsTrue (task i).last → IsTrue (task j).last → i ≡ j
+    pub packed : (h i : ℕ) → IsMember h i → IsTrue (task i).last → group_bytes h ≤ end_of i
     pub bounded : (h : ℕ) → group_bytes h < 2 ^ 16
 
   -- ---- sizes and batches

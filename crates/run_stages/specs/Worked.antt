@@ -6,7 +6,7 @@ use Rattle.serial_terms.specs.declared.call.Done.{Done}
 use Rattle.serial_terms.specs.Entries.{Entry, Each}
 use Rattle.serial_terms.specs.Histories.{IsLegalHistory}
 use Rattle.serial_terms.specs.Serial.{State}
-use Rattle.run_stages.specs.Work.{Work, Piece, IsPlan}
+use Rattle.run_stages.specs.Work.{Work, TaskFacts, IsSoundWork}
 use Rattle.run_stages.specs.Allowed.{IsAllowed}
 use Rattle.serial_terms.specs.Serial.{outside, in_child}
 use Rattle.run_stages.specs.Stages.{IsLawful}
@@ -27,11 +27,11 @@ abbrev pub no_task : Done
 no_task = outside (Take 0) Absent
 
 -- one whole frame, in which rule 0 finds its first pattern at place 8
-abbrev pub whole_piece : Piece
-whole_piece = record { group = None; start = 0; size = 0; last = false }
+abbrev pub whole_task : TaskFacts
+whole_task = record { group = None; start = 0; size = 0; last = false }
 
 abbrev pub one_frame : Work
-one_frame = record { tasks = whole_piece ∷ []; groups = 0; task_values = λ i. 8 ∷ []; group_values = λ h. [] }
+one_frame = record { tasks = whole_task ∷ []; groups = 0; task_values = λ i. 8 ∷ []; group_values = λ h. [] }
 
 abbrev pub one_frame_records : List (Entry Done)
 one_frame_records =
@@ -67,7 +67,7 @@ two_fragments_records =
 
 -- the records are a legal history of allowed records from the opening to a finished lawful state with these findings
 pub record IsWholeRun (w : Work) (findings : ℕ) (records : List (Entry Done)) (values : List ℕ) : Type 0 where
-  pub plan : IsPlan w
+  pub sound : IsSoundWork w
   pub end : State
   pub history : IsLegalHistory (opening w findings) records end
   pub allowed : Each (λ e. IsAllowed w e.dones) records

@@ -1,8 +1,10 @@
 -- Legal runs of records.
 use Rattle.std.proofs.Common.{◌≡◌, ℕ, zero, suc, List, [], ◌∷◌, ◌++◌, sym, refl, subst}
 use Rattle.std.specs.Prelude.{Option, Some, None, option_to_list}
+use Rattle.serial_terms.specs.declared.call.Done.{Done}
 use Rattle.serial_terms.specs.Entries.{Entry, Each, IsInOrder, up_to, merged, IsWriterAt, AreOfTheirPlaces}
-use Rattle.serial_terms.specs.Laws.{OrderIsUnique, MergedIsInOrder, MergedIsLegal, StatesAtPlaces}
+use Rattle.serial_terms.specs.Histories.{IsLegalRun}
+use Rattle.serial_terms.specs.Laws.{MergedIsSeen, OrderIsUnique, MergedIsInOrder, MergedIsLegal, StatesAtPlaces}
 use Rattle.serial_terms.specs.Runs.{RunsBy, LegalBy, WriterRuns, ExplainThemselves}
 use Rattle.serial_terms.specs.Serial.{IsReplied, step, IsWithinCapacity}
 use Rattle.serial_terms.proofs.Basics.{true_or_false}
@@ -50,3 +52,7 @@ in_order writer readers own p = (merged_order writer readers own p, merged_apart
 
 pub merged_runs : MergedIsLegal
 merged_runs writer readers state own x p = merged_legal IsReplied step IsWithinCapacity state writer readers own x p
+
+pub merged_seen : MergedIsSeen
+merged_seen writer readers state own x t p l ds u r =
+    (state t, subst (λ (z : List (Entry Done)). IsLegalRun (state 0) z (state t)) (sym (up_to_merged writer readers own t p l)) (merged_legal IsReplied step IsWithinCapacity state writer readers own x t), r)

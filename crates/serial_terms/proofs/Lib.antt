@@ -8,3 +8,4 @@ pub mod Renaming
 pub mod Showing
 pub mod Stepping
 pub mod Worked
+pub mod Books

@@ -69,3 +69,20 @@ module _ {D : Type 0} where
     pub of_writers : (p : ℕ) → Each (IsWriterAt p) (option_to_list (writer p))
     pub of_readers : (p : ℕ) → Each (IsReaderAt p) (readers p)
     pub ordered : (p : ℕ) → IsInOrder (readers p)
+
+-- all records of one caller
+pub record Book (D : Type 0) : Type 0 where
+  pub caller : ℕ
+  pub records : List (Entry D)
+
+module _ {D : Type 0} where
+  -- each book has records of its own caller alone, in order, and no two books have one caller
+  abbrev pub AreBooks : List (Book D) → Type 0
+  AreBooks [] = Unit {0}
+  AreBooks (b ∷ bs) = Each (λ e. e.caller ≡ b.caller) b.records × IsInOrder b.records × Each (λ c. b.caller ≢ c.caller) bs × AreBooks bs
+
+  -- the list has the records of these books and no others, in the order of a history
+  pub record IsHistoryOf (books : List (Book D)) (history : List (Entry D)) : Type 0 where
+    pub order : IsInOrder history
+    pub all : (b : Book D) (e : Entry D) → IsIn b books → IsIn e b.records → IsIn e history
+    pub only : (e : Entry D) → IsIn e history → (b : Book D) × IsIn b books × IsIn e b.records

@@ -1,10 +1,10 @@
 -- The laws of the serial structures and of histories, each as one statement.
-use Rattle.std.specs.Prelude.{◌≡◌, ◌≢◌, ◌↔◌, ℕ, ◌≤◌, List, ◌∷◌, ◌++◌, Option}
+use Rattle.std.specs.Prelude.{◌≡◌, ◌≢◌, ◌↔◌, ℕ, ◌≤◌, List, [], ◌∷◌, ◌++◌, Option}
 use Rattle.serial_terms.specs.declared.call.Call.{Call}
 use Rattle.serial_terms.specs.declared.call.Reply.{Reply}
 use Rattle.serial_terms.specs.declared.call.Done.{Done}
-use Rattle.serial_terms.specs.Entries.{Entry, Each, IsIn, IsInOrder, OneWriterAPlace, up_to, merged, AreOfTheirPlaces}
-use Rattle.serial_terms.specs.Histories.{Runs, IsLegalRun}
+use Rattle.serial_terms.specs.Entries.{Entry, Each, IsIn, IsInOrder, OneWriterAPlace, up_to, merged, AreOfTheirPlaces, by_caller, Book, AreBooks, IsHistoryOf}
+use Rattle.serial_terms.specs.Histories.{Runs, IsLegalRun, IsStateAt}
 use Rattle.serial_terms.specs.Kinds.{HasKind}
 use Rattle.serial_terms.specs.Parts.{part, IsReading}
 use Rattle.serial_terms.specs.Renaming.{IsOneToOne, NamedDone, AreNamesOfKeys, by_key, by_name, by_keys}
@@ -63,3 +63,15 @@ MergedIsInOrder = (writer : ℕ → Option (Entry Done)) (readers : ℕ → List
 abbrev pub MergedIsLegal : Type 0
 MergedIsLegal = (writer : ℕ → Option (Entry Done)) (readers : ℕ → List (Entry Done)) (state : ℕ → State) → AreOfTheirPlaces writer readers → ExplainThemselves IsReplied step IsWithinCapacity state writer readers
     → (p : ℕ) → IsLegalRun (state 0) (merged writer readers p) (state p)
+
+-- calls that run from the state at an earlier place are consistent with the merged records
+abbrev pub MergedIsSeen : Type 0
+MergedIsSeen = (writer : ℕ → Option (Entry Done)) (readers : ℕ → List (Entry Done)) (state : ℕ → State) → AreOfTheirPlaces writer readers → ExplainThemselves IsReplied step IsWithinCapacity state writer readers
+    → (t p : ℕ) → t ≤ p → (ds : List Done) (u : State) → Runs (state t) ds u → (s : State) × IsStateAt (state 0) (merged writer readers p) t s × Runs s ds u
+
+-- a history of books has each caller's records as they stand in its book, and is the only one of these books
+abbrev pub HistoryKeepsBooks : Type 0
+HistoryKeepsBooks = (books : List (Book Done)) → AreBooks books → (history : List (Entry Done)) → IsHistoryOf books history
+    → ((b : Book Done) → IsIn b books → by_caller b.caller history ≡ b.records)
+    × ((k : ℕ) → ((b : Book Done) → IsIn b books → b.caller ≢ k) → by_caller k history ≡ [])
+    × ((other : List (Entry Done)) → IsHistoryOf books other → other ≡ history)

@@ -1,7 +1,7 @@
 //! Laws of the serial structures and of histories. Each function does nothing; what it ensures is the law.
 
 ghost use Rattle.serial_terms.specs.Worked.{WorkedHistories};
-ghost use Rattle.serial_terms.specs.Laws.{RunsInParts, RunsToOneState, PartsCommute, ReadingLeavesState, RepliesHaveKinds, SizesStay, PoolsAreCounts, StatesAtPlaces, RenamingKeepsRuns, OrderIsUnique, MergedIsInOrder, MergedIsLegal};
+ghost use Rattle.serial_terms.specs.Laws.{RunsInParts, RunsToOneState, PartsCommute, ReadingLeavesState, RepliesHaveKinds, SizesStay, PoolsAreCounts, StatesAtPlaces, RenamingKeepsRuns, OrderIsUnique, MergedIsInOrder, MergedIsLegal, MergedIsSeen, HistoryKeepsBooks};
 
 /// Calls one after another run as the first ones and then the others.
 pub fn runs_in_parts()
@@ -63,6 +63,17 @@ pub fn merged_is_in_order()
 /// places.
 pub fn merged_is_legal()
     ensures { MergedIsLegal }
+{}
+
+/// Calls that run from the state at an earlier place are consistent with records merged place by place.
+pub fn merged_is_seen()
+    ensures { MergedIsSeen }
+{}
+
+/// A history of several callers' books has each caller's records as they stand in its book, and is the
+/// only history of these books.
+pub fn history_keeps_books()
+    ensures { HistoryKeepsBooks }
 {}
 
 /// The worked histories of small stores are legal, end with the contents that are stated beside them, and

@@ -13,4 +13,4 @@ mod tests;
 pub use call::{Call, Done, Reply};
 pub use committed::Record;
 pub use list::PlainList;
-pub use store::{Layout, PoolLayout, StoreState};
+pub use store::{Layout, PoolLayout, StoreState, cross_threads};

@@ -1,6 +1,6 @@
 //! What a store is laid out as, and what it holds at the end.
 
-use crate::PlainList;
+use crate::{PlainList, Record};
 
 /// The slots of a pool, and the items that it opens with in its first slots.
 #[derive(Debug, Drop)]
@@ -34,4 +34,14 @@ pub struct StoreState {
     pub logs: PlainList<PlainList<u64>>,
     /// Each plain cell's value.
     pub cells: PlainList<u64>,
+}
+
+fn may_be_shared<T: Send + Sync>(_value: &T) {}
+
+/// Layouts, contents and records may be handed to other threads and shared with them. This compiles only
+/// while that is so.
+pub fn cross_threads(layout: &Layout, contents: &StoreState, record: &Record) {
+    may_be_shared(layout);
+    may_be_shared(contents);
+    may_be_shared(record);
 }
