@@ -4,6 +4,7 @@
 #![tactic(auto)]
 
 ghost use Rattle.journal_terms.specs.Laws.{TextReadsBack, OneTextOneJournal};
+ghost use Rattle.journal_terms.specs.Worked.{WorkedJournals};
 
 /// Reading the text of a journal gives the journal back, whatever numbers below 2^64 and whatever calls it has,
 /// each with a reply of its call's kind.
@@ -14,4 +15,9 @@ pub fn text_reads_back()
 /// So two journals that have one text are one journal.
 pub fn one_text_one_journal()
     ensures { OneTextOneJournal }
+{}
+
+/// The texts of three worked journals, among them one with each form of each call, are the stated lines.
+pub fn worked_journals_are_written()
+    ensures { WorkedJournals }
 {}

@@ -1,5 +1,5 @@
 //! The directory, and how it opens, answers a claim and closes.
-ghost use Rattle.std.specs.Prelude.{◌≡◌, ◌≢◌, ℕ, ◌+◌, ◌-◌, ◌%◌, ◌^◌, ◌<◌, ◌≤◌, ◌↔◌, [], ◌∷◌, ◌++◌, length, sum, All, IfOk, IfErr, IsErr, OnErr, Some};
+ghost use Rattle.std.specs.Prelude.{◌≡◌, ℕ, ◌+◌, ◌-◌, ◌%◌, ◌^◌, ◌<◌, ◌≤◌, ◌↔◌, [], ◌∷◌, ◌++◌, length, sum, IfOk, IfErr, IsErr, OnErr, Some};
 ghost use Rattle.key_directory.specs.Words.{OnlyBelow, capacity_of, IsPosition};
 ghost use Rattle.key_directory.specs.declared.view.Step.TheVariants.{Load};
 ghost use Rattle.key_directory.specs.Directory.{claim_of, Claimed, steps_since, IsReached, AreAllOthers, Walks, key_held, HoldsEachOnce};

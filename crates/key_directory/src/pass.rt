@@ -1,5 +1,5 @@
 //! The right to claim.
-ghost use Rattle.std.specs.Prelude.{◌≡◌, ℕ, ◌+◌, ◌-◌, ◌<◌, ◌≤◌, ◌↔◌, [], ◌∷◌, ◌++◌, IsTrue, IsOk, IfOk};
+ghost use Rattle.std.specs.Prelude.{◌≡◌, ◌+◌, ◌-◌, ◌<◌, ◌≤◌, ◌↔◌, [], ◌∷◌, ◌++◌, IsTrue, IsOk, IfOk};
 ghost use Rattle.key_directory.specs.declared.view.Step.TheVariants.{Meeting};
 ghost use Rattle.key_directory.specs.Directory.{AreOneToOne};
 ghost use Rattle.key_directory.specs.Layouts.{pass_view, IsPass};

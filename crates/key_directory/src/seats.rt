@@ -1,5 +1,5 @@
 //! How seats at the table are cut in two and made one.
-ghost use Rattle.std.specs.Prelude.{◌≡◌, ◌+◌, ◌-◌, ◌<◌, ◌≤◌, [], ◌++◌, ◌∷◌};
+ghost use Rattle.std.specs.Prelude.{◌≡◌, ◌<◌, []};
 ghost use Rattle.key_directory.specs.Moves.{Knows, with_step, kept_part, moved_part, both_parts};
 ghost use Rattle.key_directory.specs.declared.view.Step.TheVariants.{Meeting};
 

@@ -1,6 +1,6 @@
 //! The steps of a claim.
-ghost use Rattle.std.specs.Prelude.{◌≡◌, ◌≢◌, ℕ, true, false, ◌+◌, ◌-◌, ◌*◌, ◌%◌, ◌^◌, ◌<◌, ◌≤◌, ◌++◌, [], ◌∷◌, List, length, sum, Contains, MatchOption, MatchBool};
-ghost use Rattle.key_directory.specs.Words.{capacities_of, capacity_of, word_number, start_from, walk, IsPosition};
+ghost use Rattle.std.specs.Prelude.{◌≡◌, ◌+◌, ◌-◌, ◌*◌, ◌%◌, ◌^◌, ◌<◌, ◌≤◌, length, sum};
+ghost use Rattle.key_directory.specs.Words.{capacities_of, capacity_of, word_number, start_from, IsPosition};
 ghost use Rattle.key_directory.specs.Moves.{Knows};
 ghost use Rattle.key_directory.specs.Directory.{IsReached};
 ghost use Rattle.key_directory.specs.Visits.{Visited, Walked};
