@@ -1,5 +1,5 @@
 -- The laws of the serial structures and of histories, each as one statement.
-use Rattle.std.specs.Prelude.{◌≡◌, ◌≢◌, ◌↔◌, ℕ, ◌≤◌, List, [], ◌∷◌, ◌++◌, Option}
+use Rattle.std.specs.Prelude.{◌≡◌, ◌≢◌, ◌↔◌, ℕ, ◌≤◌, List, [], ◌∷◌, ◌++◌, Option, Some}
 use Rattle.serial_terms.specs.declared.call.Call.{Call}
 use Rattle.serial_terms.specs.declared.call.Reply.{Reply}
 use Rattle.serial_terms.specs.declared.call.Done.{Done}
@@ -57,6 +57,11 @@ RenamingKeepsRuns = (name : ℕ → ℕ → Option ℕ) → IsOneToOne name → 
     → (s : State)
     → ((t : State) → Runs s (by_name ds) t → Runs (by_keys name s) (by_key ds) (by_keys name t))
     × ((u : State) → Runs (by_keys name s) (by_key ds) u → (t : State) × Runs s (by_name ds) t × (u ≡ by_keys name t))
+
+-- where each key's name is the key itself, nothing is renamed
+abbrev pub OwnNamesAreKeys : Type 0
+OwnNamesAreKeys = (name : ℕ → ℕ → Option ℕ) → ((m k n : ℕ) → name m k ≡ Some n → n ≡ k)
+    → (ds : List NamedDone) → AreNamesOfKeys name ds → by_name ds ≡ by_key ds
 
 -- two lists of records in the order of a history that have the same members are one
 abbrev pub OrderIsUnique : Type 0
