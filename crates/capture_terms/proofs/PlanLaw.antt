@@ -1,6 +1,6 @@
 -- The tasks of a plan's datagram lie in the file and fill its data.
-use Rattle.std.proofs.Common.{◌≡◌, ◌⊎◌, ℕ, zero, suc, ◌+◌, ◌<◌, ◌≤◌, Bool, true, false, List, [], ◌∷◌, ◌++◌, Option, None, Some, refl, sym, ◌∙◌, ap, subst, inl, inr, arith, length, get_or, take, drop, length-drop, ◌-◌}
-use Rattle.std.specs.Prelude.{All, AllPairs, Contains, option_to_list, position, filter, map, fold, nat_lt, ◌==◌, ◌&&◌, ◌||◌, if◌then◌else◌}
+use Rattle.std.proofs.Common.{◌≡◌, ℕ, zero, suc, ◌+◌, ◌<◌, ◌≤◌, Bool, true, false, List, [], ◌∷◌, ◌++◌, Option, None, Some, refl, sym, ◌∙◌, ap, subst, inl, inr, arith, length, get_or, take, drop, length-drop, ◌-◌}
+use Rattle.std.specs.Prelude.{All, AllPairs, Contains, option_to_list, fold, nat_lt, ◌==◌, ◌&&◌, ◌||◌, if◌then◌else◌}
 use Rattle.std.specs.List.{list_any, position_or_len}
 use Rattle.std.specs.Option.{option_map_or}
 use Rattle.std.proofs.lemmas.Bool.{cases_eq, cases_lt}
@@ -13,11 +13,10 @@ use Rattle.std.proofs.lemmas.List.Sums.{fails_before_first}
 use Rattle.std.proofs.lemmas.List.FromFn.{length-map-range_with_len, get_or-map-range_with_len}
 use Rattle.std.proofs.lemmas.Grind.{same_number_lists}
 use Rattle.capture_terms.specs.declared.capture.Capture.{Capture}
-use Rattle.capture_terms.specs.declared.capture.Frame.{Frame}
 use Rattle.capture_terms.specs.declared.datagram.Class.{Class}
 use Rattle.capture_terms.specs.declared.datagram.Class.TheVariants as class
 use Rattle.capture_terms.specs.declared.datagram.Kind.{Kind}
-use Rattle.capture_terms.specs.declared.datagram.Kind.TheVariants.{Other, Bad, Cut, Whole, Fragment}
+use Rattle.capture_terms.specs.declared.datagram.Kind.TheVariants.{Whole, Fragment}
 use Rattle.capture_terms.specs.declared.datagram.Piece.{Piece}
 use Rattle.capture_terms.specs.declared.plan.Group.{Group}
 use Rattle.capture_terms.specs.declared.plan.Plan.{Plan}
@@ -25,8 +24,8 @@ use Rattle.capture_terms.specs.declared.plan.Task.{Task}
 use Rattle.capture_terms.specs.Classes.{kind_of}
 use Rattle.capture_terms.specs.Kept.{group_of, is_same_group, classes_of, kept_of, kept_among, kept_piece}
 use Rattle.capture_terms.specs.Plan.{group_number, with_group_of, groups_of, task_of, task_at, tasks_from, tasks_of, kinds_of, IsClassifiable, IsPlan}
-use Rattle.capture_terms.specs.Datagram.{AreApart, ArePacked, end_of_task, size_of, is_member, members, is_complete, IsWholeAt, IsGroupAt, IsDatagramAt, IsSound, holds, byte_at, payload_of}
-use Rattle.capture_terms.proofs.Filters.{contains_at, contains_get, all_at, all_filter, all_pass, any_found}
+use Rattle.capture_terms.specs.Datagram.{end_of_task, size_of, is_member, members, is_complete, IsWholeAt, IsDatagramAt, IsSound, holds, byte_at, payload_of}
+use Rattle.capture_terms.proofs.Filters.{contains_get, all_at, all_filter, all_pass, any_found}
 use Rattle.capture_terms.proofs.PlanSound.{KindSound, kind_sound, TaskSound}
 use Rattle.capture_terms.proofs.PlanTasks.{Together, together_all, Fits, with_option, All-cons, pairs_with_option}
 
