@@ -1,5 +1,5 @@
 -- Elements of a list and of its filter.
-use Rattle.std.proofs.Common.{◌≡◌, ℕ, zero, suc, ◌<◌, ◌+◌, Bool, true, false, List, [], ◌∷◌, Option, None, Some, refl, sym, ◌∙◌, ap, subst, arith, length, get_or}
+use Rattle.std.proofs.Common.{◌≡◌, ℕ, zero, suc, ◌<◌, Bool, true, false, List, [], ◌∷◌, Some, refl, sym, ◌∙◌, ap, subst, arith, length, get_or}
 use Rattle.std.specs.Prelude.{All, Contains, slice_get, filter, ◌||◌}
 use Rattle.std.specs.List.{list_any}
 use Rattle.std.proofs.lemmas.List.{get_or_default}
@@ -11,6 +11,16 @@ pub contains_get : {X : Type 0} (xs : List X) (i : ℕ) (x : X) → slice_get xs
 contains_get [] i x at = absurd (cc)
 contains_get (y ∷ xs) zero x at = let same : y ≡ x = cc in (0, omega arith, same)
 contains_get (y ∷ xs) (suc i) x at = let rest = contains_get xs i x at in (suc rest.0, omega (arith, rest.1), rest.2)
+
+pub get_there : {X : Type 0} (xs : List X) (k : ℕ) (d : X) → k < length xs → slice_get xs k ≡ Some (get_or xs k d)
+get_there [] k d lt = absurd (omega arith)
+get_there (x ∷ xs) zero d lt = refl
+get_there (x ∷ xs) (suc k) d lt = get_there xs k d (omega arith)
+
+pub there_get : {X : Type 0} (xs : List X) (k : ℕ) (x d : X) → slice_get xs k ≡ Some x → (k < length xs) × (get_or xs k d ≡ x)
+there_get [] k x d at = absurd (cc)
+there_get (y ∷ xs) zero x d at = let same : y ≡ x = cc in (omega arith, same)
+there_get (y ∷ xs) (suc k) x d at = let rest = there_get xs k x d at in (omega (arith, rest.0), rest.1)
 
 pub all_at : {X : Type 0} (P : X → Type 0) (xs : List X) (x : X) → All P xs → Contains xs x → P x
 all_at P xs x all (k, lt, is) = subst P is (all k x lt)

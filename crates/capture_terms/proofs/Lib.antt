@@ -1,7 +1,9 @@
 pub mod Answers
 pub mod Exists
 pub mod Filters
+pub mod Firsts
 pub mod Places
+pub mod PlanGroups
 pub mod PlanLaw
 pub mod PlanSound
 pub mod PlanTasks

@@ -1,6 +1,6 @@
 -- The tasks of a plan's datagram lie in the file and fill its data.
-use Rattle.std.proofs.Common.{◌≡◌, ◌⊎◌, ℕ, zero, suc, ◌+◌, ◌<◌, ◌≤◌, Bool, true, false, List, [], ◌∷◌, ◌++◌, Option, None, Some, refl, sym, ◌∙◌, ap, subst, inl, inr, arith, length, get_or, take, drop, length-drop, ◌-◌}
-use Rattle.std.specs.Prelude.{All, AllPairs, Contains, option_to_list, position, filter, map, fold, nat_lt, ◌==◌, ◌&&◌, ◌||◌, if◌then◌else◌}
+use Rattle.std.proofs.Common.{◌≡◌, ℕ, zero, suc, ◌+◌, ◌<◌, ◌≤◌, Bool, true, false, List, [], ◌∷◌, ◌++◌, Option, None, Some, refl, sym, ◌∙◌, ap, subst, inl, inr, arith, length, get_or, take, drop, length-drop, ◌-◌}
+use Rattle.std.specs.Prelude.{All, AllPairs, Contains, option_to_list, fold, nat_lt, ◌==◌, ◌&&◌, ◌||◌, if◌then◌else◌}
 use Rattle.std.specs.List.{list_any, position_or_len}
 use Rattle.std.specs.Option.{option_map_or}
 use Rattle.std.proofs.lemmas.Bool.{cases_eq, cases_lt}
@@ -13,11 +13,10 @@ use Rattle.std.proofs.lemmas.List.Sums.{fails_before_first}
 use Rattle.std.proofs.lemmas.List.FromFn.{length-map-range_with_len, get_or-map-range_with_len}
 use Rattle.std.proofs.lemmas.Grind.{same_number_lists}
 use Rattle.capture_terms.specs.declared.capture.Capture.{Capture}
-use Rattle.capture_terms.specs.declared.capture.Frame.{Frame}
 use Rattle.capture_terms.specs.declared.datagram.Class.{Class}
 use Rattle.capture_terms.specs.declared.datagram.Class.TheVariants as class
 use Rattle.capture_terms.specs.declared.datagram.Kind.{Kind}
-use Rattle.capture_terms.specs.declared.datagram.Kind.TheVariants.{Other, Bad, Cut, Whole, Fragment}
+use Rattle.capture_terms.specs.declared.datagram.Kind.TheVariants.{Whole, Fragment}
 use Rattle.capture_terms.specs.declared.datagram.Piece.{Piece}
 use Rattle.capture_terms.specs.declared.plan.Group.{Group}
 use Rattle.capture_terms.specs.declared.plan.Plan.{Plan}
@@ -25,8 +24,8 @@ use Rattle.capture_terms.specs.declared.plan.Task.{Task}
 use Rattle.capture_terms.specs.Classes.{kind_of}
 use Rattle.capture_terms.specs.Kept.{group_of, is_same_group, classes_of, kept_of, kept_among, kept_piece}
 use Rattle.capture_terms.specs.Plan.{group_number, with_group_of, groups_of, task_of, task_at, tasks_from, tasks_of, kinds_of, IsClassifiable, IsPlan}
-use Rattle.capture_terms.specs.Datagram.{AreApart, ArePacked, end_of_task, size_of, is_member, members, is_complete, IsWholeAt, IsGroupAt, IsDatagramAt, IsSound, holds, byte_at, payload_of}
-use Rattle.capture_terms.proofs.Filters.{contains_at, contains_get, all_at, all_filter, all_pass, any_found}
+use Rattle.capture_terms.specs.Datagram.{ArePacked, end_of_task, size_of, is_member, members, is_complete, IsWholeAt, IsDatagramAt, IsSound, holds, byte_at, payload_of}
+use Rattle.capture_terms.proofs.Filters.{contains_get, all_at, all_filter, all_pass, any_found}
 use Rattle.capture_terms.proofs.PlanSound.{KindSound, kind_sound, TaskSound}
 use Rattle.capture_terms.proofs.PlanTasks.{Together, together_all, Fits, with_option, All-cons, pairs_with_option}
 
@@ -101,7 +100,7 @@ module _ (end : ℕ) (groups : List Group) where
 
 -- Datagrams.
 
-member_group : (number : ℕ) (t : Task) → is_member number t ≡ true → t.group ≡ Some number
+pub member_group : (number : ℕ) (t : Task) → is_member number t ≡ true → t.group ≡ Some number
 member_group number t is = by_case t.group is
   where
     by_case : (o : Option ℕ) → option_map_or (λ group. group == number) o false ≡ true → o ≡ Some number
@@ -122,7 +121,7 @@ module _ (bytes : List ℕ) (groups : List Group) (tasks : List Task) (sound : A
         short = omega (arith, fine.short);
       })
 
-  module _ (number : ℕ) (complete : is_complete (members tasks number) ≡ true) where
+  module _ (number : ℕ) where
     fine : All (TaskSound (length bytes)) (members tasks number)
     fine = all_filter (TaskSound (length bytes)) (is_member number) tasks sound
 
@@ -133,19 +132,6 @@ module _ (bytes : List ℕ) (groups : List Group) (tasks : List Task) (sound : A
         AllPairs-filter (Together groups) (is_member number) tasks together i j d less lt
         ((fine i d before).some number (group_at i before)) ((fine j d lt).some number (group_at j lt)) number (group_at i before) (group_at j lt)
 
-    last_one : (t : Task) × Contains (members tasks number) t × (t.last ≡ true) × (size_of (members tasks number) ≡ end_of_task t)
-    last_one =
-        let found = any_found (λ (t : Task). t.last && (size_of (members tasks number) == end_of_task t)) (members tasks number) complete in
-        (found.0, found.1, is_last found.0.last (size_of (members tasks number)) (end_of_task found.0) found.2, is_end found.0.last (size_of (members tasks number)) (end_of_task found.0) found.2)
-      where
-        is_last : (l : Bool) (a b : ℕ) → (l && (a == b)) ≡ true → l ≡ true
-        is_last true a b is = refl
-        is_last false a b is = is
-
-        is_end : (l : Bool) (a b : ℕ) → (l && (a == b)) ≡ true → a ≡ b
-        is_end true a b is = grind (arith, nat_tests)
-        is_end false a b is = absurd (cc)
-
     ends_before : (t : Task) → Contains (members tasks number) t → t.last ≡ true → (k : ℕ) → k < length (members tasks number) → end_of_task (get_or (members tasks number) k t) ≤ end_of_task t
     ends_before t (i, within, is) last k lt = elim (cases_eq k i) [
       | inl same ↦ omega (arith, ap end_of_task (ap (λ (n : ℕ). get_or (members tasks number) n t) same ∙ is))
@@ -155,19 +141,40 @@ module _ (bytes : List ℕ) (groups : List Group) (tasks : List Task) (sound : A
       ]
     ]
 
-    group_sound : IsSound bytes (members tasks number)
-    group_sound =
-        let l = last_one in
-        let end : size_of (members tasks number) ≡ end_of_task l.0 = l.3 in
-        let most : TaskSound (length bytes) l.0 = all_at (TaskSound (length bytes)) (members tasks number) l.0 fine l.1 in
-        record {
-          there = λ k d lt. (fine k d lt).there;
-          packed = record {
-            within = λ k d lt. omega (arith, end, ends_before l.0 l.1 l.2 k lt, ap end_of_task (get_or_default (members tasks number) k d l.0 lt));
-            apart = λ i j d less lt. (fit i j d less lt).apart;
-          };
-          short = omega (arith, end, most.short);
-        }
+    -- the tasks of a group end before the end of its last one
+    pub packed_before : (t : Task) → Contains (members tasks number) t → t.last ≡ true → ArePacked (end_of_task t) (members tasks number)
+    packed_before t among last = record {
+      within = λ k d lt. omega (arith, ends_before t among last k lt, ap end_of_task (get_or_default (members tasks number) k d t lt));
+      apart = λ i j d less lt. (fit i j d less lt).apart;
+    }
+
+    pub packed_short : ArePacked 65535 (members tasks number)
+    packed_short = record { within = λ k d lt. (fine k d lt).short; apart = λ i j d less lt. (fit i j d less lt).apart }
+
+    module _ (complete : is_complete (members tasks number) ≡ true) where
+      last_one : (t : Task) × Contains (members tasks number) t × (t.last ≡ true) × (size_of (members tasks number) ≡ end_of_task t)
+      last_one =
+          let found = any_found (λ (t : Task). t.last && (size_of (members tasks number) == end_of_task t)) (members tasks number) complete in
+          (found.0, found.1, is_last found.0.last (size_of (members tasks number)) (end_of_task found.0) found.2, is_end found.0.last (size_of (members tasks number)) (end_of_task found.0) found.2)
+        where
+          is_last : (l : Bool) (a b : ℕ) → (l && (a == b)) ≡ true → l ≡ true
+          is_last true a b is = refl
+          is_last false a b is = is
+
+          is_end : (l : Bool) (a b : ℕ) → (l && (a == b)) ≡ true → a ≡ b
+          is_end true a b is = grind (arith, nat_tests)
+          is_end false a b is = absurd (cc)
+
+      group_sound : IsSound bytes (members tasks number)
+      group_sound =
+          let l = last_one in
+          let end : size_of (members tasks number) ≡ end_of_task l.0 = l.3 in
+          let most : TaskSound (length bytes) l.0 = all_at (TaskSound (length bytes)) (members tasks number) l.0 fine l.1 in
+          record {
+            there = λ k d lt. (fine k d lt).there;
+            packed = subst (λ (n : ℕ). ArePacked n (members tasks number)) (sym end) (packed_before l.0 l.1 l.2);
+            short = omega (arith, end, most.short);
+          }
 
   tasks_datagram : (numbers : List ℕ) (datagram : List Task) → IsDatagramAt tasks numbers datagram → IsSound bytes datagram
   tasks_datagram numbers datagram at = elim at [
@@ -175,14 +182,14 @@ module _ (bytes : List ℕ) (groups : List Group) (tasks : List Task) (sound : A
     | inr group ↦ subst (IsSound bytes) (sym group.is) (group_sound group.group group.complete)
   ]
 
-plan_kinds : (bytes : List ℕ) (capture : Capture) → IsClassifiable bytes capture → All (KindSound (length bytes)) (kinds_of bytes capture)
+pub plan_kinds : (bytes : List ℕ) (capture : Capture) → IsClassifiable bytes capture → All (KindSound (length bytes)) (kinds_of bytes capture)
 plan_kinds bytes capture fine = All-map (KindSound (length bytes)) (kind_of capture.link bytes) capture.frames.items (λ k d lt. kind_sound capture.link bytes (get_or capture.frames.items k d) (fine.within k d lt))
 
-tasks_fine : (end : ℕ) (kinds : List Kind) → All (KindSound end) kinds → All (TaskSound end) (tasks_of kinds)
+pub tasks_fine : (end : ℕ) (kinds : List Kind) → All (KindSound end) kinds → All (TaskSound end) (tasks_of kinds)
 unfolding tasks_of groups_of kept_of
 tasks_fine end kinds sound = tasks_sound end (groups_of kinds) 0 (classes_of kinds) kinds (λ p among. number_some (groups_of kinds) p (fold_has [] (kept_of kinds) p among)) sound
 
-tasks_together : (kinds : List Kind) → AllPairs (Together (groups_of kinds)) (tasks_of kinds)
+pub tasks_together : (kinds : List Kind) → AllPairs (Together (groups_of kinds)) (tasks_of kinds)
 unfolding tasks_of classes_of
 tasks_together kinds = together_all (groups_of kinds) 0 [] kinds
 

@@ -1,19 +1,15 @@
 -- What a frame's kind says of its piece, and so of its task.
-use Rattle.std.proofs.Common.{◌≡◌, ◌⊎◌, ℕ, zero, suc, ◌+◌, ◌-◌, ◌*◌, ◌<◌, ◌≤◌, Bool, true, false, List, [], ◌∷◌, ◌++◌, Option, None, Some, refl, sym, ◌∙◌, ap, subst, inl, inr, arith, length, get_or, take, drop, length-take, length-drop}
-use Rattle.std.specs.Prelude.{All, Contains, option_to_list, map, ◌||◌, ◌&&◌, if◌then◌else◌}
+use Rattle.std.proofs.Common.{◌≡◌, ℕ, ◌+◌, ◌-◌, ◌<◌, ◌≤◌, Bool, true, false, List, Option, None, Some, refl, arith, length, drop, length-take, length-drop}
+use Rattle.std.specs.Prelude.{◌||◌, if◌then◌else◌}
 use Rattle.std.proofs.lemmas.Bool.Decides.{nat_tests}
 use Rattle.capture_terms.specs.declared.capture.Frame.{Frame}
-use Rattle.capture_terms.specs.declared.datagram.Class.{Class}
-use Rattle.capture_terms.specs.declared.datagram.Class.TheVariants as class
 use Rattle.capture_terms.specs.declared.datagram.Kind.{Kind}
-use Rattle.capture_terms.specs.declared.datagram.Kind.TheVariants.{Other, Bad, Cut, Whole, Fragment}
+use Rattle.capture_terms.specs.declared.datagram.Kind.TheVariants.{Bad, Cut, Whole, Fragment}
 use Rattle.capture_terms.specs.declared.datagram.Piece.{Piece}
-use Rattle.capture_terms.specs.declared.plan.Group.{Group}
 use Rattle.capture_terms.specs.declared.plan.Task.{Task}
 use Rattle.capture_terms.specs.Capture.{IsWithin, frame_bytes}
-use Rattle.capture_terms.specs.Classes.{has_bad_header, has_bad_data, is_cut, is_fragment, piece_of, datagram_kind, kind_of, kind_from, datagram_start, lacks_header, has_short_total, is_past_greatest, is_empty_fragment, header_length, total_length, data_length, data_start}
-use Rattle.capture_terms.specs.Kept.{kept_piece, kept_among, end_of}
-use Rattle.capture_terms.specs.Plan.{group_number, task_of, task_at, tasks_from}
+use Rattle.capture_terms.specs.Classes.{has_bad_header, has_bad_data, is_cut, is_fragment, piece_of, datagram_kind, kind_of, kind_from, datagram_start, header_length, total_length, data_length, data_start}
+use Rattle.capture_terms.specs.Kept.{end_of}
 use Rattle.capture_terms.specs.Datagram.{end_of_task}
 
 pub record PieceSound (end : ℕ) (piece : Piece) : Type 0 where

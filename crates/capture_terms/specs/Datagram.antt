@@ -1,5 +1,5 @@
 -- Datagrams put together from the tasks of a plan (RFC 791, section 3.2).
-use Rattle.std.specs.Prelude.{◌≡◌, ◌⊎◌, ℕ, ◌+◌, ◌-◌, ◌<◌, ◌≤◌, Bool, true, false, not, ◌&&◌, ◌==◌, nat_le, nat_lt, List, [], ◌∷◌, length, slice_index, slice_get, Option, Some, None, if◌then◌else◌, All, AllPairs, filter, map, filter_map, count_by, sum_by, Contains, IsSomeAnd}
+use Rattle.std.specs.Prelude.{◌≡◌, ◌⊎◌, ℕ, ◌+◌, ◌-◌, ◌≤◌, Bool, true, false, not, ◌&&◌, ◌==◌, nat_le, nat_lt, List, [], ◌∷◌, length, slice_index, slice_get, Option, Some, None, if◌then◌else◌, All, AllPairs, filter, map, filter_map, count_by, sum_by, Contains, IsSomeAnd}
 use Rattle.std.specs.List.{list_any, range_with_len}
 use Rattle.std.specs.Option.{option_map_or}
 use Rattle.capture_terms.specs.declared.plan.Group.{Group}

@@ -8,7 +8,7 @@ use Rattle.capture_terms.specs.Kept.{group_of, is_same_group, classes_of, kept_o
 use Rattle.capture_terms.specs.declared.capture.Capture.{Capture}
 use Rattle.capture_terms.specs.declared.datagram.Piece.{Piece}
 use Rattle.capture_terms.specs.declared.datagram.Kind.{Kind}
-use Rattle.capture_terms.specs.declared.datagram.Kind.TheVariants.{Other, Bad, Cut, Whole, Fragment}
+use Rattle.capture_terms.specs.declared.datagram.Kind.TheVariants.{Whole, Fragment}
 use Rattle.capture_terms.specs.declared.datagram.Class.{Class}
 use Rattle.capture_terms.specs.declared.datagram.Class.TheVariants as class
 use Rattle.capture_terms.specs.declared.plan.Group.{Group}

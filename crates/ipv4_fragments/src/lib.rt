@@ -6,6 +6,8 @@ mod groups;
 mod header;
 mod ranges;
 mod sorting;
+#[cfg(test)]
+mod tests;
 
 pub use assembly::payload;
 pub use capture_terms::{Capture, Class, Frame, Group, Header, Plan, Task};

@@ -1,2 +1,5 @@
 pub mod Least
 pub mod Ascending
+pub mod Decimals
+pub mod Tokens
+pub mod WrittenLines

@@ -3,3 +3,4 @@ pub mod Grammar
 pub mod RuleText
 pub mod Match
 pub mod Laws
+pub mod Written

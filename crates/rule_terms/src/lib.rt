@@ -6,6 +6,12 @@
 #![tactic(auto)]
 
 ghost use Rattle.rule_terms.specs.Laws.{RuleTextIsOne, PlacesAreLeast, FindingsAscend, FindingsAreThere};
+ghost use Rattle.rule_terms.specs.Written.{LinesReadAsWritten};
+
+/// A line reads as a rule exactly where it is the line that the rule is written as.
+pub fn lines_read_as_written()
+    ensures { LinesReadAsWritten }
+{}
 
 /// A text of rules reads as one list of rules only.
 pub fn rule_text_is_one()

@@ -1,0 +1,5 @@
+pub mod Words
+pub mod Index
+pub mod Places
+pub mod PartLists
+pub mod LaidOver

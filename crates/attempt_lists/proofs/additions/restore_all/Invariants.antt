@@ -1,0 +1,6 @@
+use Rattle.std.proofs.Common.{◌≡◌, ◌++◌, take, drop, map}
+use Rattle.attempt_lists.specs.Parts.{restores}
+use Rattle.attempt_lists.proofs.additions.restore_all.Given as goal
+
+abbrev pub invariant-loop-part : goal.invariant-loop-part
+invariant-loop-part l = l.parts ≡ map restores (take l.part-index l.initial.parts) ++ drop l.part-index l.initial.parts

@@ -1,0 +1,4 @@
+pub mod Cells
+pub mod Levels
+pub mod Observed
+pub mod Parts

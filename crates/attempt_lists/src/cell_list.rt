@@ -1,0 +1,158 @@
+//! Cells in the order in which they came, with an index by cell.
+ghost use Rattle.std.specs.Prelude.{◌≡◌, ℕ, ◌+◌, ◌<◌, ◌≤◌, [], ◌∷◌, ◌++◌, length, take, Some, IfSome, OnOk, OnErr, IfSome, MatchOption};
+ghost use Rattle.attempt_lists.specs.Cells.{word_at, word_of, cell_at, NoCellTwice, Listed};
+
+use std::alloc::{AllocError, Global};
+use std::collections::HashMap;
+use std::marker::Model;
+
+/// Cells in the order in which they came, none twice, each with a word.
+///
+/// A cell is found in constant time. Places are reserved by number, and a call that fills one takes no memory.
+#[derive(Drop)]
+pub struct CellList {
+    entries: Vec<(u32, u64)>,
+    places: HashMap<u32, usize>,
+    reserved: usize,
+}
+
+impl Model for CellList {
+    ghost use Rattle.std.specs.Prelude.{◌≡◌, ◌+◌, ◌≤◌, nat_eq};
+    ghost use Rattle.std.specs.Vec.{vec_len, vec_capacity};
+    ghost use Rattle.std.specs.HashMap.{get, spare};
+    ghost use Rattle.attempt_lists.specs.Cells.{Listed, IsIndex};
+
+    ghost Value = { Listed };
+
+    ghost view = { λ a. record { entries = a.entries.items; reserved = a.reserved } };
+
+    ghost invariant = { λ a. IsIndex (get nat_eq a.places) a.entries.items × (vec_len a.entries + a.reserved ≤ vec_capacity a.entries) × (a.reserved ≤ spare a.places) };
+}
+
+impl CellList {
+    /// An empty list with no place reserved. Takes no memory.
+    pub fn new(alloc: Global) -> Self
+        ensures empty { result.entries ≡ [] }
+        ensures reserved { result.reserved ≡ 0 }
+    {
+        Self {
+            entries: Vec::new(alloc),
+            places: HashMap::new(alloc),
+            reserved: 0,
+        }
+    }
+
+    /// How many cells are in the list.
+    pub fn len(&self) -> usize
+        ensures { result ≡ length self.now.entries }
+    {
+        self.entries.len()
+    }
+
+    /// The word of a cell, or `None` where the cell is not in the list.
+    pub fn get(&self, cell: u32) -> Option<u64>
+        ensures { result ≡ word_at self.now.entries cell }
+    {
+        match self.place(cell) {
+            Some(place) => Some(self.entries[place].1),
+            None => None,
+        }
+    }
+
+    /// Where in the list the cell is.
+    pub fn place(&self, cell: u32) -> Option<usize>
+        ensures { MatchOption result (word_at self.now.entries cell ≡ None) (λ i. (i < length self.now.entries) × (cell_at self.now.entries i ≡ cell) × (word_at self.now.entries cell ≡ Some (word_of self.now.entries i))) }
+    {
+        match self.places.get(&cell) {
+            Some(place) => Some(*place),
+            None => None,
+        }
+    }
+
+    /// The cells with their words, in the order in which they came.
+    pub fn as_slice(&self) -> &[(u32, u64)]
+        ensures entries { result.now ≡ self.now.entries }
+        ensures once { NoCellTwice self.now.entries }
+    {
+        &self.entries
+    }
+
+    /// How many places are reserved.
+    pub fn reserved(&self) -> usize
+        ensures { result ≡ self.now.reserved }
+    {
+        self.reserved
+    }
+
+    /// Reserves places for `more` cells beside those reserved already.
+    pub fn reserve(&mut self, more: usize) -> Result<(), AllocError>
+        ensures entries { self.new.entries ≡ self.old.entries }
+        ensures ok { OnOk result (self.new.reserved ≡ self.old.reserved + more) }
+        ensures err { OnErr result (self.new.reserved ≡ self.old.reserved) }
+    {
+        let Some(reserved) = self.reserved.checked_add(more) else {
+            return Err(AllocError);
+        };
+        self.entries.reserve(reserved)?;
+        self.places.reserve(reserved)?;
+        self.reserved = reserved;
+        Ok(())
+    }
+
+    /// Appends a cell that is not in the list. The reserved places stay reserved.
+    pub fn push(&mut self, cell: u32, word: u64) -> Result<(), AllocError>
+        requires absent { word_at self.old.entries cell ≡ None }
+        ensures ok { OnOk result (self.new ≡ record self.old { entries = self.old.entries ++ (cell, word) ∷ [] }) }
+        ensures err { OnErr result (self.new ≡ self.old) }
+    {
+        self.reserve(1)?;
+        self.push_reserved(cell, word);
+        Ok(())
+    }
+
+    /// Appends a cell that is not in the list at a reserved place. Takes no memory.
+    pub fn push_reserved(&mut self, cell: u32, word: u64)
+        requires absent { word_at self.old.entries cell ≡ None }
+        requires room { 0 < self.old.reserved }
+        ensures entries { self.new.entries ≡ self.old.entries ++ (cell, word) ∷ [] }
+        ensures reserved { self.new.reserved + 1 ≡ self.old.reserved }
+    {
+        let place = self.entries.len();
+        let Ok(()) = self.entries.push((cell, word)) else {
+            unreachable!()
+        };
+        let Ok(_) = self.places.insert(cell, place) else {
+            unreachable!()
+        };
+        self.reserved -= 1;
+    }
+
+    /// Takes the last cell out. Takes no memory.
+    pub fn pop(&mut self) -> Option<(u32, u64)>
+        ensures entries { MatchOption result ((self.old.entries ≡ []) × (self.new.entries ≡ [])) (λ e. self.old.entries ≡ self.new.entries ++ e ∷ []) }
+        ensures gone { IfSome result (λ e. word_at self.new.entries e.0 ≡ None) }
+        ensures reserved { self.new.reserved ≡ self.old.reserved }
+    {
+        let last = self.entries.pop()?;
+        self.places.remove(&last.0);
+        Some(last)
+    }
+
+    /// Drops all cells but the first `len`. Takes no memory.
+    pub fn truncate(&mut self, len: usize)
+        ensures entries { self.new.entries ≡ take len self.old.entries }
+        ensures reserved { self.new.reserved ≡ self.old.reserved }
+    {
+        while self.len() > len {
+            self.pop();
+        }
+    }
+
+    /// The cells with their words, in the order in which they came.
+    pub fn into_entries(self) -> Vec<(u32, u64)>
+        ensures entries { result.items ≡ self.entries }
+        ensures once { NoCellTwice self.entries }
+    {
+        self.entries
+    }
+}

@@ -1,0 +1,5 @@
+use Rattle.capture_terms.proofs.PlanGroups.{plan_grouped}
+use Rattle.capture_terms.proofs.groups.group_law.Goals as goal
+
+pub returns : goal.returns
+returns c = plan_grouped

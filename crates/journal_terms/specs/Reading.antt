@@ -1,0 +1,110 @@
+-- A reading of the journal's text: lines are cut at line feeds, a record at its colon, its calls at semicolons, and words at spaces.
+use Rattle.std.specs.Prelude.{ℕ, Bool, true, false, ◌==◌, if◌then◌else◌, List, [], ◌∷◌, Option, Some, None, codes}
+use Rattle.std.specs.Str.{bytes_eq}
+use Rattle.std.specs.Str.Parse.{digits_value}
+use Rattle.std.specs.List.{slice_split}
+use Rattle.serial_terms.specs.declared.call.Call.{Call}
+use Rattle.serial_terms.specs.declared.call.Call.TheVariants.{MapGet, MapPut, MapRemove, MapPutIfAbsent, Enqueue, Dequeue, QueueLen, Take, Give, Append, AppendPlaced, LogRead, LogLen, CellGet, CellPut}
+use Rattle.serial_terms.specs.declared.call.Reply.{Reply}
+use Rattle.serial_terms.specs.declared.call.Reply.TheVariants.{Nothing, Absent, Value, Flag}
+use Rattle.serial_terms.specs.declared.call.Done.{Done}
+use Rattle.serial_terms.specs.Entries.{Entry}
+use Rattle.journal_terms.specs.Text.{Journal, space, line_feed, colon, semicolon}
+
+abbrev pub cut_at : ℕ → List ℕ → List (List ℕ)
+cut_at c bytes = slice_split (λ b. b == c) bytes
+
+abbrev pub number : List ℕ → ℕ
+number word = digits_value 10 word
+
+abbrev pub value_or_absent : List ℕ → Reply
+value_or_absent word = if bytes_eq word (codes "-") then Absent else Value (number word)
+
+-- the call of this name with these words behind it, and its reply
+abbrev pub read_two : List ℕ → List ℕ → List ℕ → Option (Call × Reply)
+read_two name a b = if bytes_eq name (codes "remove") then Some (MapRemove (number a) (number b), Nothing)
+    else if bytes_eq name (codes "enq") then Some (Enqueue (number a) (number b), Nothing)
+    else if bytes_eq name (codes "deq") then Some (Dequeue (number a), value_or_absent b)
+    else if bytes_eq name (codes "qlen") then Some (QueueLen (number a), Value (number b))
+    else if bytes_eq name (codes "take") then Some (Take (number a), value_or_absent b)
+    else if bytes_eq name (codes "app") then Some (Append (number a) (number b), Nothing)
+    else if bytes_eq name (codes "llen") then Some (LogLen (number a), Value (number b))
+    else if bytes_eq name (codes "cget") then Some (CellGet (number a), Value (number b))
+    else if bytes_eq name (codes "cput") then Some (CellPut (number a) (number b), Nothing)
+    else None
+
+abbrev pub read_three : List ℕ → List ℕ → List ℕ → List ℕ → Option (Call × Reply)
+read_three name a b c = if bytes_eq name (codes "get") then Some (MapGet (number a) (number b), value_or_absent c)
+    else if bytes_eq name (codes "put") then Some (MapPut (number a) (number b) (number c), Nothing)
+    else if bytes_eq name (codes "give") then Some (Give (number a) (number b), Flag (bytes_eq c (codes "yes")))
+    else if bytes_eq name (codes "appat") then Some (AppendPlaced (number a) (number b), Value (number c))
+    else if bytes_eq name (codes "read") then Some (LogRead (number a) (number b), value_or_absent c)
+    else None
+
+abbrev pub read_four : List ℕ → List ℕ → List ℕ → List ℕ → List ℕ → Option (Call × Reply)
+read_four name a b c d = if bytes_eq name (codes "putnew") then Some (MapPutIfAbsent (number a) (number b) (number c), value_or_absent d) else None
+
+abbrev pub read_call : List ℕ → List (List ℕ) → Option (Call × Reply)
+read_call name (a ∷ b ∷ []) = read_two name a b
+read_call name (a ∷ b ∷ c ∷ []) = read_three name a b c
+read_call name (a ∷ b ∷ c ∷ d ∷ []) = read_four name a b c d
+read_call name _ = None
+
+abbrev pub as_done : Bool → Option (Call × Reply) → Option Done
+as_done child None = None
+as_done child (Some p) = Some record { call = p.0; reply = p.1; child = child }
+
+-- a plus before the name says that the call was made while a child was open
+abbrev pub read_marked : List ℕ → List (List ℕ) → Option Done
+read_marked [] words = None
+read_marked (b ∷ bs) words = if b == 43 then as_done true (read_call bs words) else as_done false (read_call (b ∷ bs) words)
+
+-- the words of a call, before which stands a space
+abbrev pub read_done : List (List ℕ) → Option Done
+read_done ([] ∷ name ∷ words) = read_marked name words
+read_done _ = None
+
+abbrev pub also : {A : Type 0} → Option A → Option (List A) → Option (List A)
+also (Some x) (Some xs) = Some (x ∷ xs)
+also _ _ = None
+
+abbrev pub read_dones : List (List ℕ) → Option (List Done)
+read_dones [] = Some []
+read_dones (piece ∷ pieces) = also (read_done (cut_at space piece)) (read_dones pieces)
+
+-- what stands after a record's colon: nothing where it has no calls
+abbrev pub read_calls : List ℕ → Option (List Done)
+read_calls [] = Some []
+read_calls (b ∷ bs) = read_dones (cut_at semicolon (b ∷ bs))
+
+abbrev pub read_head : List (List ℕ) → Option (List Done) → Option (Entry Done)
+read_head (t ∷ place ∷ writer ∷ caller ∷ index ∷ []) (Some dones) = if bytes_eq t (codes "t") then Some record { caller = number caller; index = number index; place = number place; writer = bytes_eq writer (codes "w"); dones = dones } else None
+read_head _ _ = None
+
+abbrev pub read_parts : List (List ℕ) → Option (Entry Done)
+read_parts (head ∷ calls ∷ []) = read_head (cut_at space head) (read_calls calls)
+read_parts _ = None
+
+abbrev pub read_record : List ℕ → Option (Entry Done)
+read_record line = read_parts (cut_at colon line)
+
+-- nothing stands behind the last line
+abbrev pub read_end : List (List ℕ) → Option (List (Entry Done))
+read_end ([] ∷ []) = Some []
+read_end _ = None
+
+-- the records' lines up to the line `end`
+abbrev pub read_records : List (List ℕ) → Option (List (Entry Done))
+read_records [] = None
+read_records (line ∷ lines) = if bytes_eq line (codes "end") then read_end lines else also (read_record line) (read_records lines)
+
+abbrev pub read_open : List (List ℕ) → Option (List (Entry Done)) → Option Journal
+read_open (o ∷ tasks ∷ groups ∷ findings ∷ []) (Some records) = if bytes_eq o (codes "open") then Some record { tasks = number tasks; groups = number groups; findings = number findings; records = records } else None
+read_open _ _ = None
+
+abbrev pub read_lines : List (List ℕ) → Option Journal
+read_lines (title ∷ head ∷ lines) = if bytes_eq title (codes "journal 1") then read_open (cut_at space head) (read_records lines) else None
+read_lines _ = None
+
+abbrev pub read_journal : List ℕ → Option Journal
+read_journal text = read_lines (cut_at line_feed text)

@@ -1,0 +1,23 @@
+//! The journal of a run, version 1: the text of a history, and a reading of it that gives the history back.
+//!
+//! Each function does nothing; what it ensures is the law.
+#![tactic(auto)]
+
+ghost use Rattle.journal_terms.specs.Laws.{TextReadsBack, OneTextOneJournal};
+ghost use Rattle.journal_terms.specs.Worked.{WorkedJournals};
+
+/// Reading the text of a journal gives the journal back, whatever numbers below 2^64 and whatever calls it has,
+/// each with a reply of its call's kind.
+pub fn text_reads_back()
+    ensures { TextReadsBack }
+{}
+
+/// So two journals that have one text are one journal.
+pub fn one_text_one_journal()
+    ensures { OneTextOneJournal }
+{}
+
+/// The texts of three worked journals, among them one with each form of each call, are the stated lines.
+pub fn worked_journals_are_written()
+    ensures { WorkedJournals }
+{}

@@ -1,0 +1,6 @@
+pub mod Words
+pub mod Rule
+pub mod Moves
+pub mod Directory
+pub mod Visits
+pub mod Layouts

@@ -1,0 +1,5 @@
+use Rattle.rule_terms.proofs.WrittenLines.{written}
+use Rattle.rule_terms.proofs.lines_read_as_written.Goals as goal
+
+pub returns : goal.returns
+returns c = written

@@ -1,0 +1,16 @@
+pub mod Counting
+pub mod Opens
+pub mod Taking
+pub mod Matching
+pub mod Chains
+pub mod Adding
+pub mod Filling
+pub mod Runs
+pub mod Steps
+pub mod Finishing
+pub mod Bounds
+pub mod Worked
+pub mod Batches
+pub mod FromTasks
+pub mod FromCapture
+pub mod Telling

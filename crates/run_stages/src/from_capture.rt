@@ -1,0 +1,49 @@
+//! Laws of the work that a capture gives. Each function does nothing; what it ensures is the law.
+
+ghost use Rattle.run_stages.specs.FromCapture.{PlansAreWork, ValuesAreFindings, FinishedFindsCapture, IncompleteAreCounted, FinishedCountsIncomplete, WholeIsDatagram, GroupIsDatagram};
+
+use capture_terms::{group_law, task_law};
+
+/// The tasks and groups of a capture's plan are a plan of a run.
+pub fn plans_are_work()
+    ensures { PlansAreWork }
+{
+    group_law();
+}
+
+/// The values of all datagrams of a run are the findings in the datagrams of the tasks, in some order.
+pub fn values_are_findings()
+    ensures { ValuesAreFindings }
+{}
+
+/// So the log of a finished lawful state has exactly the findings of the rules in the capture, in some
+/// order.
+pub fn finished_finds_capture()
+    ensures { FinishedFindsCapture }
+{
+    task_law();
+}
+
+/// The incomplete groups of a run are those that are counted of a plan.
+pub fn incomplete_are_counted()
+    ensures { IncompleteAreCounted }
+{}
+
+/// So map 0 of a finished lawful state has a word for as many groups as are counted, and for none that
+/// isn't there.
+pub fn finished_counts_incomplete()
+    ensures { FinishedCountsIncomplete }
+{
+    group_law();
+}
+
+/// A whole datagram's task is asked for by its number, and has the values of the findings in it.
+pub fn whole_is_datagram()
+    ensures { WholeIsDatagram }
+{}
+
+/// A complete group's datagram is asked for by the numbers of the group's tasks, in any order, and the
+/// group has the values of the findings in it.
+pub fn group_is_datagram()
+    ensures { GroupIsDatagram }
+{}

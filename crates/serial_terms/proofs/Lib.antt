@@ -1,0 +1,11 @@
+pub mod Basics
+pub mod Running
+pub mod Commuting
+pub mod Pools
+pub mod Ordering
+pub mod Legal
+pub mod Renaming
+pub mod Showing
+pub mod Stepping
+pub mod Worked
+pub mod Books

@@ -1,0 +1,11 @@
+pub mod Counts
+pub mod Serial
+pub mod Kinds
+pub mod Entries
+pub mod Runs
+pub mod Histories
+pub mod Stores
+pub mod Parts
+pub mod Renaming
+pub mod Worked
+pub mod Laws
