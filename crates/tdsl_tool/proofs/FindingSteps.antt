@@ -15,7 +15,7 @@ use Rattle.rule_terms.specs.Match.{findings_of}
 use Rattle.rule_terms.specs.Rule.{Rule}
 use Rattle.tdsl_tool.specs.Members.{IsMembers, AreMembers}
 use Rattle.tdsl_tool.specs.declared.members.Members.{Members}
-use Rattle.tdsl_tool.specs.Inspection.{finding_number, findings_in, all_findings}
+use Rattle.inspection_terms.specs.Findings.{finding_number, findings_in, all_findings}
 
 -- what lists of the values come to, of one value or none
 flat_map-option : {Y A : Type 0} (f : Y → List A) (o : Option Y) → flat_map f (cons_option o []) ≡ option_map_or f o []

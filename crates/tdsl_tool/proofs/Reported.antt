@@ -13,7 +13,8 @@ use Rattle.capture_terms.specs.declared.plan.Plan.{Plan}
 use Rattle.capture_terms.specs.declared.plan.Task.{Task}
 use Rattle.rule_terms.specs.Rule.{Rule}
 use Rattle.report.specs.Report.{text_of, count_line, counts_of, finding_line, report_lines}
-use Rattle.tdsl_tool.specs.Inspection.{counts_in, all_findings, findings_of_capture, report_of}
+use Rattle.inspection_terms.specs.Findings.{all_findings, findings_of_capture}
+use Rattle.tdsl_tool.specs.Inspection.{counts_in, report_of}
 use Rattle.tdsl_tool.specs.Verdict.{max_file, max_findings, verdict_under, too_many_findings, reports, answer_is, IsVerdictUnder}
 
 -- the verdict of a count of findings
@@ -63,13 +64,13 @@ module _ (rules : List Rule) (bytes : List ℕ) (capture : Capture) (plan : Plan
         capture = answer_is (captured contents);
         capture_is = (short, says);
         comes_to = ap reports
-          (text_is ∙ written rules capture plan open_groups findings
-          ∙ ap (λ (c : List Class). text_from rules contents c plan.groups.items open_groups findings) is.classes
-          ∙ ap (λ (g : List Group). text_from rules contents (classes_of (kinds_of bytes capture)) g open_groups findings) is.groups
-          ∙ ap (λ (n : ℕ). text_from rules contents (classes_of (kinds_of bytes capture)) (groups_of (kinds_of bytes capture)) n findings) open_of
-          ∙ ap (text_from rules contents (classes_of (kinds_of bytes capture)) (groups_of (kinds_of bytes capture)) (incomplete (tasks_of (kinds_of bytes capture)) (groups_of (kinds_of bytes capture)))) all
-          ∙ reported rules bytes capture)
-          ∙ under_few rules bytes contents few_of;
+            (text_is ∙ written rules capture plan open_groups findings
+            ∙ ap (λ (c : List Class). text_from rules contents c plan.groups.items open_groups findings) is.classes
+            ∙ ap (λ (g : List Group). text_from rules contents (classes_of (kinds_of bytes capture)) g open_groups findings) is.groups
+            ∙ ap (λ (n : ℕ). text_from rules contents (classes_of (kinds_of bytes capture)) (groups_of (kinds_of bytes capture)) n findings) open_of
+            ∙ ap (text_from rules contents (classes_of (kinds_of bytes capture)) (groups_of (kinds_of bytes capture)) (incomplete (tasks_of (kinds_of bytes capture)) (groups_of (kinds_of bytes capture)))) all
+            ∙ reported rules bytes capture)
+            ∙ under_few rules bytes contents few_of;
       }
 
   -- more findings than a report may have

@@ -3,7 +3,8 @@ use Rattle.std.specs.Prelude.{◌≡◌, ℕ, ◌<◌, ◌≤◌, nat_lt, List, 
 use Rattle.capture_terms.specs.Capture.{Answer, captured, bad_header, other_version, other_link, long_record, too_many_frames, IsAnswer, Contents}
 use Rattle.rule_terms.specs.Rule.{Rule}
 use Rattle.rule_terms.specs.RuleText.{IsRuleText}
-use Rattle.tdsl_tool.specs.Inspection.{findings_of_capture, report_of}
+use Rattle.inspection_terms.specs.Findings.{findings_of_capture}
+use Rattle.tdsl_tool.specs.Inspection.{report_of}
 
 -- the most bytes that a file may have: 64 MiB
 abbrev pub max_file : ℕ

@@ -8,7 +8,7 @@ ghost use Rattle.rule_terms.specs.Match as matches;
 ghost use Rattle.tdsl_tool.specs.Members.{AreMembers, IsMembers, IsGrouped};
 ghost use Rattle.tdsl_tool.specs.declared.members.Members as declared;
 ghost use Rattle.report.specs.Report.{rule_of};
-ghost use Rattle.tdsl_tool.specs.Inspection.{all_findings, finding_number, findings_in};
+ghost use Rattle.inspection_terms.specs.Findings.{all_findings, finding_number, findings_in};
 
 use crate::members::{Members, count_incomplete, members_by_group, whole_from};
 use capture_terms::task_law;

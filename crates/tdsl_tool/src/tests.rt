@@ -5,6 +5,7 @@ use std::alloc::{AllocError, Global};
 use std::test::Fail;
 
 const GREET: &[u8] = b"rule greet proto udp dport 53 has \"hello\"";
+
 const SEAM: &[u8] = b"rule seam proto icmp has \"ghij\"";
 
 const HEADER: [u8; 24] = [
@@ -38,7 +39,13 @@ struct Run {
     faults: Vec<u8>,
 }
 
-fn inspected(alloc: Global, words: &[&str], rules: &[u8], capture: &[u8], failing: u64) -> Result<Run, AllocError> {
+fn inspected(
+    alloc: Global,
+    words: &[&str],
+    rules: &[u8],
+    capture: &[u8],
+    failing: u64,
+) -> Result<Run, AllocError> {
     let mut list = Vec::new(alloc);
     for word in words {
         list.push(String::from_str(alloc, *word)?)?;
@@ -66,7 +73,9 @@ fn fragments(alloc: Global, list: &[Fragment<'_>]) -> Result<Vec<u8>, AllocError
         let length = (34 + fragment.data.len().min(200)) as u8;
         let flags = fragment.at / 8 % 8192;
         let more = if fragment.more { 0x20 } else { 0 };
-        capture.extend_from_slice(&[number, 0, 0, 0, 0, 0, 0, 0, length, 0, 0, 0, length, 0, 0, 0])?;
+        capture.extend_from_slice(&[
+            number, 0, 0, 0, 0, 0, 0, 0, length, 0, 0, 0, length, 0, 0, 0,
+        ])?;
         capture.extend_from_slice(&[2, 0, 0, 0, 0, 2, 2, 0, 0, 0, 0, 1, 8, 0])?;
         capture.extend_from_slice(&[0x45, 0, 0, length - 14, 0, fragment.id])?;
         capture.extend_from_slice(&[(flags / 256) as u8 + more, (flags % 256) as u8, 64, 1, 0, 0])?;
@@ -80,8 +89,17 @@ fn fragments(alloc: Global, list: &[Fragment<'_>]) -> Result<Vec<u8>, AllocError
 // The report with these counts and finding lines.
 fn report(alloc: Global, counts: [u8; 11], findings: &str) -> Result<Vec<u8>, AllocError> {
     let words = [
-        "frames", "other", "bad", "cut", "whole", "kept", "aside", "torn", "datagrams",
-        "incomplete", "findings",
+        "frames",
+        "other",
+        "bad",
+        "cut",
+        "whole",
+        "kept",
+        "aside",
+        "torn",
+        "datagrams",
+        "incomplete",
+        "findings",
     ];
     let mut text = String::new(alloc);
     for (word, count) in words.iter().zip(counts) {
@@ -93,6 +111,37 @@ fn report(alloc: Global, counts: [u8; 11], findings: &str) -> Result<Vec<u8>, Al
 
 const COMMAND: [&str; 3] = ["inspect", "r", "c"];
 
+// The header and the record header of `HELLO` with the highest byte of each number first.
+const HIGH_FIRST: [u8; 40] = [
+    0xa1, 0xb2, 0xc3, 0xd4, 0, 2, 0, 4, 0, 0, 0, 0, 0, 0, 0, 0, 0, 4, 0, 0, 0, 0, 0, 1, 0, 0, 0, 1,
+    0, 0, 0, 0, 0, 0, 0, 47, 0, 0, 0, 47,
+];
+
+const ADDRESSES: [u8; 12] = [2, 0, 0, 0, 0, 2, 2, 0, 0, 0, 0, 1];
+
+const DATAGRAM: [u8; 33] = [
+    0x45, 0, 0, 33, 0, 1, 0, 0, 0x40, 17, 0, 0, 10, 0, 0, 1, 192, 0, 2, 1, 0x0f, 0xa0, 0, 53, 0,
+    13, 0, 0, 104, 101, 108, 108, 111,
+];
+
+// A capture of one frame, whose bytes are the pieces one behind the other.
+fn one_frame(
+    alloc: Global,
+    link: u8,
+    length: u8,
+    pieces: [&[u8]; 3],
+) -> Result<Vec<u8>, AllocError> {
+    let mut capture = HEADER.to_vec(alloc)?;
+    if capture.len() > 20 {
+        capture[20] = link;
+    }
+    capture.extend_from_slice(&[1, 0, 0, 0, 0, 0, 0, 0, length, 0, 0, 0, length, 0, 0, 0])?;
+    for piece in pieces {
+        capture.extend_from_slice(piece)?;
+    }
+    Ok(capture)
+}
+
 #[test]
 fn reports_are_those_of_the_captures(rt: HostRuntime) -> Result<(), Fail> {
     let alloc = rt.alloc();
@@ -102,12 +151,23 @@ fn reports_are_those_of_the_captures(rt: HostRuntime) -> Result<(), Fail> {
     torn.extend_from_slice(&[0; 10])?;
     for (capture, counts, findings) in [
         (HEADER.as_slice(), [0; 11], ""),
-        (hello.as_slice(), [1, 0, 0, 0, 1, 0, 0, 0, 1, 0, 1], "finding 0 greet 8\n"),
-        (torn.as_slice(), [1, 0, 0, 0, 1, 0, 0, 10, 1, 0, 1], "finding 0 greet 8\n"),
+        (
+            hello.as_slice(),
+            [1, 0, 0, 0, 1, 0, 0, 0, 1, 0, 1],
+            "finding 0 greet 8\n",
+        ),
+        (
+            torn.as_slice(),
+            [1, 0, 0, 0, 1, 0, 0, 10, 1, 0, 1],
+            "finding 0 greet 8\n",
+        ),
     ] {
         let got = inspected(alloc, &COMMAND, GREET, capture, 0)?;
         assert_eq!(rt; got.status, 0);
-        assert_eq!(rt; got.out.as_slice(), report(alloc, counts, findings)?.as_slice());
+        assert_eq!(rt;
+            got.out.as_slice(),
+            report(alloc, counts, findings)?.as_slice()
+        );
         assert_eq!(rt; got.faults.as_slice(), b"".as_slice());
     }
     Ok(())
@@ -119,7 +179,12 @@ fn fragments_make_datagrams(rt: HostRuntime) -> Result<(), Fail> {
     let first = piece(1, 0, true, b"abcdefgh");
     let last = piece(1, 8, false, b"ijkl");
     for (rules, list, counts, findings) in [
-        (SEAM, [last, first].as_slice(), [2, 0, 0, 0, 0, 2, 0, 0, 1, 0, 1], "finding 0 seam 6\n"),
+        (
+            SEAM,
+            [last, first].as_slice(),
+            [2, 0, 0, 0, 0, 2, 0, 0, 1, 0, 1],
+            "finding 0 seam 6\n",
+        ),
         (
             b"rule one proto icmp has \"ijkl\"\nrule two proto icmp has \"XXXX\"",
             [
@@ -131,7 +196,12 @@ fn fragments_make_datagrams(rt: HostRuntime) -> Result<(), Fail> {
             [3, 0, 0, 0, 0, 2, 1, 0, 1, 0, 1],
             "finding 0 one 8\n",
         ),
-        (SEAM, [first, first, last].as_slice(), [3, 0, 0, 0, 0, 2, 1, 0, 1, 0, 1], "finding 0 seam 6\n"),
+        (
+            SEAM,
+            [first, first, last].as_slice(),
+            [3, 0, 0, 0, 0, 2, 1, 0, 1, 0, 1],
+            "finding 0 seam 6\n",
+        ),
         (
             b"rule head proto any has \"abcd\"",
             [first].as_slice(),
@@ -140,22 +210,39 @@ fn fragments_make_datagrams(rt: HostRuntime) -> Result<(), Fail> {
         ),
         (
             SEAM,
-            [piece(2, 65512, false, b"abc"), piece(3, 65512, false, b"abcd")].as_slice(),
+            [
+                piece(2, 65512, false, b"abc"),
+                piece(3, 65512, false, b"abcd"),
+            ]
+            .as_slice(),
             [2, 0, 1, 0, 0, 1, 0, 0, 0, 1, 0],
             "",
         ),
         (
             SEAM,
-            [last, piece(1, 16, true, b"abcdefgh"), piece(1, 24, false, b"x")].as_slice(),
+            [
+                last,
+                piece(1, 16, true, b"abcdefgh"),
+                piece(1, 24, false, b"x"),
+            ]
+            .as_slice(),
             [3, 0, 0, 0, 0, 1, 2, 0, 0, 1, 0],
             "",
         ),
-        (SEAM, [piece(1, 0, true, b"abcdefghijkl")].as_slice(), [1, 0, 1, 0, 0, 0, 0, 0, 0, 0, 0], ""),
+        (
+            SEAM,
+            [piece(1, 0, true, b"abcdefghijkl")].as_slice(),
+            [1, 0, 1, 0, 0, 0, 0, 0, 0, 0, 0],
+            "",
+        ),
     ] {
         let capture = fragments(alloc, list)?;
         let got = inspected(alloc, &COMMAND, rules, &capture, 0)?;
         assert_eq!(rt; got.status, 0);
-        assert_eq!(rt; got.out.as_slice(), report(alloc, counts, findings)?.as_slice());
+        assert_eq!(rt;
+            got.out.as_slice(),
+            report(alloc, counts, findings)?.as_slice()
+        );
     }
     Ok(())
 }
@@ -163,7 +250,8 @@ fn fragments_make_datagrams(rt: HostRuntime) -> Result<(), Fail> {
 #[test]
 fn faults_are_told_with_their_status(rt: HostRuntime) -> Result<(), Fail> {
     let alloc = rt.alloc();
-    let usage = "usage: inspect|journal [--workers N] [--findings N] RULES CAPTURE | make SEED FRAMES | trial [--workers N] SEED FRAMES\n";
+    let usage =
+        "usage: inspect|journal [--workers N] [--findings N] RULES CAPTURE | make SEED FRAMES | trial [--workers N] SEED FRAMES\n";
     let mut hello = HEADER.to_vec(alloc)?;
     hello.extend_from_slice(&HELLO)?;
     let mut other_link = hello.as_slice().to_vec(alloc)?;
@@ -171,17 +259,138 @@ fn faults_are_told_with_their_status(rt: HostRuntime) -> Result<(), Fail> {
         other_link[20] = 147;
     }
     for (words, rules, capture, failing, status, line) in [
-        (["inspect", "r"].as_slice(), GREET, hello.as_slice(), 0, 1, usage),
+        (
+            ["inspect", "r"].as_slice(),
+            GREET,
+            hello.as_slice(),
+            0,
+            1,
+            usage,
+        ),
         ([].as_slice(), GREET, hello.as_slice(), 0, 1, usage),
-        (["inspect", "--workers", "c"].as_slice(), GREET, hello.as_slice(), 0, 1, usage),
-        (["inspect", "q", "c"].as_slice(), GREET, hello.as_slice(), 0, 2, "read fault: q\n"),
-        (["inspect", "r", "q"].as_slice(), GREET, hello.as_slice(), 0, 2, "read fault: q\n"),
-        (COMMAND.as_slice(), GREET, hello.as_slice(), 1, 3, "write fault\n"),
-        (COMMAND.as_slice(), GREET, &HEADER[..23], 0, 5, "bad capture: header at 23\n"),
-        (COMMAND.as_slice(), GREET, other_link.as_slice(), 0, 5, "bad capture: link 147 at 20\n"),
-        (COMMAND.as_slice(), b"rule x proto udp".as_slice(), hello.as_slice(), 0, 8, "unbuilt: rules\n"),
+        (
+            ["inspect", "--workers", "c"].as_slice(),
+            GREET,
+            hello.as_slice(),
+            0,
+            1,
+            usage,
+        ),
+        (
+            ["inspect", "q", "c"].as_slice(),
+            GREET,
+            hello.as_slice(),
+            0,
+            2,
+            "read fault: q\n",
+        ),
+        (
+            ["inspect", "r", "q"].as_slice(),
+            GREET,
+            hello.as_slice(),
+            0,
+            2,
+            "read fault: q\n",
+        ),
+        (
+            COMMAND.as_slice(),
+            GREET,
+            hello.as_slice(),
+            1,
+            3,
+            "write fault\n",
+        ),
+        (
+            COMMAND.as_slice(),
+            GREET,
+            &HEADER[..23],
+            0,
+            5,
+            "bad capture: header at 23\n",
+        ),
+        (
+            COMMAND.as_slice(),
+            GREET,
+            other_link.as_slice(),
+            0,
+            5,
+            "bad capture: link 147 at 20\n",
+        ),
+        (
+            COMMAND.as_slice(),
+            b"rule x proto udp".as_slice(),
+            hello.as_slice(),
+            0,
+            8,
+            "unbuilt: rules\n",
+        ),
     ] {
         let got = inspected(alloc, words, rules, capture, failing)?;
+        assert_eq!(rt; got.status, status, "{line}");
+        assert_eq!(rt; got.out.as_slice(), b"".as_slice(), "{line}");
+        assert_eq!(rt; got.faults.as_slice(), line.as_bytes(), "{line}");
+    }
+    Ok(())
+}
+
+#[test]
+fn link_headers_and_byte_orders_are_read(rt: HostRuntime) -> Result<(), Fail> {
+    let alloc = rt.alloc();
+    let found = [1, 0, 0, 0, 1, 0, 0, 0, 1, 0, 1];
+    let mut high_first = HIGH_FIRST.to_vec(alloc)?;
+    high_first.extend_from_slice(&ADDRESSES)?;
+    high_first.extend_from_slice(&[8, 0])?;
+    high_first.extend_from_slice(&DATAGRAM)?;
+    let raw = one_frame(alloc, 101, 33, [b"", b"", &DATAGRAM])?;
+    let two_tags = [0x81, 0, 0, 1, 0x88, 0xa8, 0, 2, 8, 0];
+    let two_tags = one_frame(alloc, 1, 55, [&ADDRESSES, &two_tags, &DATAGRAM])?;
+    let three_tags = [0x81, 0, 0, 1, 0x88, 0xa8, 0, 2, 0x81, 0, 0, 3, 8, 0];
+    let three_tags = one_frame(alloc, 1, 59, [&ADDRESSES, &three_tags, &DATAGRAM])?;
+    // A total length of 100 in a frame of which 64 bytes were captured.
+    let header = [8, 0, 0x45, 0, 0, 100, 0, 1, 0, 0, 0x40, 17, 0, 0];
+    let cut = one_frame(alloc, 1, 64, [&ADDRESSES, &header, &[0; 38]])?;
+    for (capture, counts, findings) in [
+        (high_first.as_slice(), found, "finding 0 greet 8\n"),
+        (raw.as_slice(), found, "finding 0 greet 8\n"),
+        (two_tags.as_slice(), found, "finding 0 greet 8\n"),
+        (three_tags.as_slice(), [1, 1, 0, 0, 0, 0, 0, 0, 0, 0, 0], ""),
+        (cut.as_slice(), [1, 0, 0, 1, 0, 0, 0, 0, 0, 0, 0], ""),
+    ] {
+        let got = inspected(alloc, &COMMAND, GREET, capture, 0)?;
+        assert_eq!(rt; got.status, 0);
+        assert_eq!(rt;
+            got.out.as_slice(),
+            report(alloc, counts, findings)?.as_slice()
+        );
+        assert_eq!(rt; got.faults.as_slice(), b"".as_slice());
+    }
+    Ok(())
+}
+
+// A capture that repeats a record.
+fn repeated(alloc: Global, record: &[u8], count: u32) -> Result<Vec<u8>, AllocError> {
+    let mut capture = HEADER.to_vec(alloc)?;
+    for _ in 0..count {
+        capture.extend_from_slice(record)?;
+    }
+    Ok(capture)
+}
+
+#[test]
+fn limits_are_told_by_their_lines(rt: HostRuntime) -> Result<(), Fail> {
+    let alloc = rt.alloc();
+    let mut long_record = [0; 16];
+    long_record[8] = 1;
+    long_record[10] = 4;
+    let long_record = repeated(alloc, &long_record, 1)?;
+    let too_many_frames = repeated(alloc, &[0; 16], 262_145)?;
+    let too_many_findings = repeated(alloc, &HELLO, 65_537)?;
+    for (capture, status, line) in [
+        (long_record.as_slice(), 5, "bad capture: record at 24\n"),
+        (too_many_frames.as_slice(), 6, "limit: frames\n"),
+        (too_many_findings.as_slice(), 6, "limit: findings\n"),
+    ] {
+        let got = inspected(alloc, &COMMAND, GREET, capture, 0)?;
         assert_eq!(rt; got.status, status, "{line}");
         assert_eq!(rt; got.out.as_slice(), b"".as_slice(), "{line}");
         assert_eq!(rt; got.faults.as_slice(), line.as_bytes(), "{line}");

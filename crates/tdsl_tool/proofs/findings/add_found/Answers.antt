@@ -4,7 +4,7 @@ use Rattle.std.proofs.lemmas.Result.{on_ok_weaker}
 use Rattle.std.proofs.lemmas.List.Elements.{All-append, All-map, All-same, All-weaker}
 use Rattle.rule_terms.specs.Match.{findings_of}
 use Rattle.report.specs.Report.{rule_of}
-use Rattle.tdsl_tool.specs.Inspection.{finding_number}
+use Rattle.inspection_terms.specs.Findings.{finding_number}
 use Rattle.tdsl_tool.proofs.FindingNumbers.{rule_there}
 use Rattle.tdsl_tool.proofs.findings.add_found.Goals as goal
 

@@ -1,5 +1,5 @@
 use Rattle.std.proofs.Common.{◌≡◌, ◌++◌, take, map}
-use Rattle.tdsl_tool.specs.Inspection.{finding_number}
+use Rattle.inspection_terms.specs.Findings.{finding_number}
 use Rattle.tdsl_tool.proofs.findings.append.Given as goal
 
 abbrev pub invariant-loop-rule : goal.invariant-loop-rule

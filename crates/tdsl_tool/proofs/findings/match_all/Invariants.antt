@@ -3,7 +3,7 @@ use Rattle.std.specs.Prelude.{All, filter_map}
 use Rattle.std.specs.List.{flat_map}
 use Rattle.capture_terms.specs.Datagram.{datagram_from}
 use Rattle.report.specs.Report.{rule_of}
-use Rattle.tdsl_tool.specs.Inspection.{findings_in}
+use Rattle.inspection_terms.specs.Findings.{findings_in}
 use Rattle.tdsl_tool.proofs.findings.match_all.Given as goal
 
 abbrev pub invariant-loop-task : goal.invariant-loop-task
