@@ -21,14 +21,14 @@ const HELLO: [u8; 63] = [
 
 // A fragment of an ICMP datagram.
 #[derive(Clone, Copy)]
-struct Fragment<'a> {
+struct Fragment {
     id: u8,
     at: u16,
     more: bool,
-    data: &'a [u8],
+    data: &'static [u8],
 }
 
-fn piece(id: u8, at: u16, more: bool, data: &[u8]) -> Fragment<'_> {
+fn piece(id: u8, at: u16, more: bool, data: &'static [u8]) -> Fragment {
     Fragment { id, at, more, data }
 }
 
@@ -66,7 +66,7 @@ fn inspected(
     })
 }
 
-fn fragments(alloc: Global, list: &[Fragment<'_>]) -> Result<Vec<u8>, AllocError> {
+fn fragments(alloc: Global, list: &[Fragment]) -> Result<Vec<u8>, AllocError> {
     let mut capture = HEADER.to_vec(alloc)?;
     let mut number = 0u8;
     for fragment in list {
@@ -117,28 +117,42 @@ const HIGH_FIRST: [u8; 40] = [
     0, 0, 0, 0, 0, 0, 0, 47, 0, 0, 0, 47,
 ];
 
-const ADDRESSES: [u8; 12] = [2, 0, 0, 0, 0, 2, 2, 0, 0, 0, 0, 1];
+// Link headers with two tags and with three.
+const TWO_TAGGED: &[u8] = &[
+    2, 0, 0, 0, 0, 2, 2, 0, 0, 0, 0, 1, 0x81, 0, 0, 1, 0x88, 0xa8, 0, 2, 8, 0,
+];
 
-const DATAGRAM: [u8; 33] = [
+const THREE_TAGGED: &[u8] = &[
+    2, 0, 0, 0, 0, 2, 2, 0, 0, 0, 0, 1, 0x81, 0, 0, 1, 0x88, 0xa8, 0, 2, 0x81, 0, 0, 3, 8, 0,
+];
+
+// A link header and the first bytes of a datagram with a total length of 100, and what is behind them.
+const LONG_DATAGRAM: &[u8] = &[
+    2, 0, 0, 0, 0, 2, 2, 0, 0, 0, 0, 1, 8, 0, 0x45, 0, 0, 100, 0, 1, 0, 0, 0x40, 17, 0, 0,
+];
+
+const ZEROS: &[u8] = &[0; 38];
+
+const DATAGRAM: &[u8] = &[
     0x45, 0, 0, 33, 0, 1, 0, 0, 0x40, 17, 0, 0, 10, 0, 0, 1, 192, 0, 2, 1, 0x0f, 0xa0, 0, 53, 0,
     13, 0, 0, 104, 101, 108, 108, 111,
 ];
 
-// A capture of one frame, whose bytes are the pieces one behind the other.
+// A capture of one frame, whose bytes are in two pieces.
 fn one_frame(
     alloc: Global,
     link: u8,
     length: u8,
-    pieces: [&[u8]; 3],
+    before: &[u8],
+    behind: &[u8],
 ) -> Result<Vec<u8>, AllocError> {
     let mut capture = HEADER.to_vec(alloc)?;
     if capture.len() > 20 {
         capture[20] = link;
     }
     capture.extend_from_slice(&[1, 0, 0, 0, 0, 0, 0, 0, length, 0, 0, 0, length, 0, 0, 0])?;
-    for piece in pieces {
-        capture.extend_from_slice(piece)?;
-    }
+    capture.extend_from_slice(before)?;
+    capture.extend_from_slice(behind)?;
     Ok(capture)
 }
 
@@ -338,17 +352,12 @@ fn link_headers_and_byte_orders_are_read(rt: HostRuntime) -> Result<(), Fail> {
     let alloc = rt.alloc();
     let found = [1, 0, 0, 0, 1, 0, 0, 0, 1, 0, 1];
     let mut high_first = HIGH_FIRST.to_vec(alloc)?;
-    high_first.extend_from_slice(&ADDRESSES)?;
-    high_first.extend_from_slice(&[8, 0])?;
-    high_first.extend_from_slice(&DATAGRAM)?;
-    let raw = one_frame(alloc, 101, 33, [b"", b"", &DATAGRAM])?;
-    let two_tags = [0x81, 0, 0, 1, 0x88, 0xa8, 0, 2, 8, 0];
-    let two_tags = one_frame(alloc, 1, 55, [&ADDRESSES, &two_tags, &DATAGRAM])?;
-    let three_tags = [0x81, 0, 0, 1, 0x88, 0xa8, 0, 2, 0x81, 0, 0, 3, 8, 0];
-    let three_tags = one_frame(alloc, 1, 59, [&ADDRESSES, &three_tags, &DATAGRAM])?;
+    high_first.extend_from_slice(&HELLO[16..])?;
+    let raw = one_frame(alloc, 101, 33, b"", DATAGRAM)?;
+    let two_tags = one_frame(alloc, 1, 55, TWO_TAGGED, DATAGRAM)?;
+    let three_tags = one_frame(alloc, 1, 59, THREE_TAGGED, DATAGRAM)?;
     // A total length of 100 in a frame of which 64 bytes were captured.
-    let header = [8, 0, 0x45, 0, 0, 100, 0, 1, 0, 0, 0x40, 17, 0, 0];
-    let cut = one_frame(alloc, 1, 64, [&ADDRESSES, &header, &[0; 38]])?;
+    let cut = one_frame(alloc, 1, 64, LONG_DATAGRAM, ZEROS)?;
     for (capture, counts, findings) in [
         (high_first.as_slice(), found, "finding 0 greet 8\n"),
         (raw.as_slice(), found, "finding 0 greet 8\n"),
