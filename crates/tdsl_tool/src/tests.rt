@@ -20,14 +20,14 @@ const HELLO: [u8; 63] = [
 
 // A fragment of an ICMP datagram.
 #[derive(Clone, Copy)]
-struct Fragment<'a> {
+struct Fragment {
     id: u8,
     at: u16,
     more: bool,
-    data: &'a [u8],
+    data: &'static [u8],
 }
 
-fn piece(id: u8, at: u16, more: bool, data: &[u8]) -> Fragment<'_> {
+fn piece(id: u8, at: u16, more: bool, data: &'static [u8]) -> Fragment {
     Fragment { id, at, more, data }
 }
 
@@ -59,7 +59,7 @@ fn inspected(alloc: Global, words: &[&str], rules: &[u8], capture: &[u8], failin
     })
 }
 
-fn fragments(alloc: Global, list: &[Fragment<'_>]) -> Result<Vec<u8>, AllocError> {
+fn fragments(alloc: Global, list: &[Fragment]) -> Result<Vec<u8>, AllocError> {
     let mut capture = HEADER.to_vec(alloc)?;
     let mut number = 0u8;
     for fragment in list {
