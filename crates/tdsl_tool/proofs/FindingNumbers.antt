@@ -1,7 +1,5 @@
 -- The rule of a finding, from its number.
-use Rattle.std.proofs.Common.{◌≡◌, ℕ, ◌+◌, ◌*◌, ◌/◌, ◌%◌, ◌^◌, ◌<◌, ◌≤◌, List, ◌++◌, length, subst, sym, arith}
-use Rattle.std.specs.Prelude.{All, map}
-use Rattle.std.proofs.lemmas.List.Elements.{All-append, All-map, All-same}
+use Rattle.std.proofs.Common.{ℕ, ◌<◌, ◌≤◌, arith}
 use Rattle.report.specs.Report.{rule_of}
 use Rattle.tdsl_tool.specs.Inspection.{finding_number}
 

@@ -5,3 +5,5 @@ pub mod OneVerdict
 pub mod Ran
 pub mod FindingNumbers
 pub mod MemberSteps
+pub mod IncompleteGroups
+pub mod FindingSteps

@@ -1,7 +1,7 @@
 -- One task more among the members of the groups.
-use Rattle.std.proofs.Common.{◌≡◌, ◌≢◌, ◌⊎◌, inl, inr, ℕ, ◌+◌, ◌<◌, ◌≤◌, true, false, List, [], ◌∷◌, ◌++◌, length, take, get_or, set, Option, Some, None, refl, sym, ◌∙◌, ap, subst, arith, append-nil}
+use Rattle.std.proofs.Common.{◌≡◌, ◌≢◌, inl, inr, ℕ, ◌+◌, ◌<◌, true, false, List, [], ◌∷◌, ◌++◌, length, take, get_or, set, Some, None, refl, sym, ◌∙◌, ap, subst, arith, append-nil}
 use Rattle.std.specs.Prelude.{Result, Ok, Err, OnOk, filter, All, Contains, IsSomeAnd, slice_get}
-use Rattle.std.proofs.lemmas.Bool.{cases_eq, cases_lt}
+use Rattle.std.proofs.lemmas.Bool.{cases_lt}
 use Rattle.std.proofs.lemmas.List.{take_more, get_or-set_same, get_or-set_other, length-set}
 use Rattle.std.proofs.lemmas.List.Elements.{filter-append, All-append, All-get_or, Contains-append_left, Contains-append_right}
 use Rattle.std.proofs.lemmas.Bool.Decides.{eqb_tells}
@@ -27,16 +27,17 @@ IsMembers-other tasks upto group task list there is other are = record {
   where
     none : filter (is_member group) (task ∷ []) ≡ []
     none = rw other
+
     all : (number : ℕ) (t : Task) → number < upto + 1 → slice_get tasks number ≡ Some t → is_member group t ≡ true → Contains list.numbers.items number
     all number t below got member =
         elim (cases_lt number upto) [
-          inl before ↦ are.all number t before got member
-        | inr here ↦
-            let at : number ≡ upto = omega arith in
-            let same : slice_get tasks number ≡ Some task = ap (slice_get tasks) at ∙ slice_get-get_or tasks upto task there ∙ ap Some (sym is) in
-            let equal : t ≡ task = cc in
-            let both : true ≡ false = sym member ∙ ap (is_member group) equal ∙ other in
-            absurd (cc)
+          | inl before ↦ are.all number t before got member
+          | inr here ↦
+              let at : number ≡ upto = omega arith in
+              let same : slice_get tasks number ≡ Some task = ap (slice_get tasks) at ∙ slice_get-get_or tasks upto task there ∙ ap Some (sym is) in
+              let equal : t ≡ task = cc in
+              let both : true ≡ false = sym member ∙ ap (is_member group) equal ∙ other in
+              absurd (cc)
         ]
 
 -- a task of the group
@@ -50,19 +51,23 @@ IsMembers-more tasks upto group task list new there is member numbers added are 
   where
     Is : ℕ → Type 0
     Is number = IsSomeAnd (slice_get tasks number) (λ t. is_member group t ≡ true)
+
     got_here : slice_get tasks upto ≡ Some task
     got_here = slice_get-get_or tasks upto task there ∙ ap Some (sym is)
+
     here : Is upto
     here = rw got_here member
+
     one : filter (is_member group) (task ∷ []) ≡ task ∷ []
     one = rw member
+
     all : (number : ℕ) (t : Task) → number < upto + 1 → slice_get tasks number ≡ Some t → is_member group t ≡ true → Contains new.numbers.items number
     all number t below got is_one =
         elim (cases_lt number upto) [
-          inl before ↦ subst (λ (l : List ℕ). Contains l number) (sym numbers) (Contains-append_left list.numbers.items (upto ∷ []) number (are.all number t before got is_one))
-        | inr past ↦
-            let at : upto ≡ number = omega arith in
-            subst (λ (l : List ℕ). Contains l number) (sym numbers) (Contains-append_right list.numbers.items (upto ∷ []) number (0, omega arith, at))
+          | inl before ↦ subst (λ (l : List ℕ). Contains l number) (sym numbers) (Contains-append_left list.numbers.items (upto ∷ []) number (are.all number t before got is_one))
+          | inr past ↦
+              let at : upto ≡ number = omega arith in
+              subst (λ (l : List ℕ). Contains l number) (sym numbers) (Contains-append_right list.numbers.items (upto ∷ []) number (0, omega arith, at))
         ]
 
 -- no task so far
@@ -70,13 +75,13 @@ pub AreMembers-none : (tasks : List Task) (count : ℕ) (lists : List Members) �
 AreMembers-none tasks count lists long empty = record {
   long = long;
   lists_are = λ group d below.
-    let there : group < length lists = omega arith in
-    let none = All-get_or IsEmpty lists group d there empty in
-    record {
-      tasks_are = none.1;
-      each = rw none.0 (λ k d before. absurd (omega arith));
-      all = λ number task before got member. absurd (omega arith);
-    };
+      let there : group < length lists = omega arith in
+      let none = All-get_or IsEmpty lists group d there empty in
+      record {
+        tasks_are = none.1;
+        each = rw none.0 (λ k d before. absurd (omega arith));
+        all = λ number task before got member. absurd (omega arith);
+      };
 }
 
 -- a task of no group
@@ -84,8 +89,8 @@ pub AreMembers-skip : (tasks : List Task) (upto count : ℕ) (lists : List Membe
 AreMembers-skip tasks upto count lists task there is none are = record {
   long = are.long;
   lists_are = λ group d below.
-    let other : is_member group task ≡ false = rw none refl in
-    IsMembers-other tasks upto group task (get_or lists group d) there is other (are.lists_are group d below);
+      let other : is_member group task ≡ false = rw none refl in
+      IsMembers-other tasks upto group task (get_or lists group d) there is other (are.lists_are group d below);
 }
 
 -- an element that is there, whatever stands for one that is not
@@ -112,18 +117,18 @@ AreMembers-more tasks upto count lists new task own old list there is has inside
     at : (group : ℕ) (d : Members) → group < count → IsMembers tasks (upto + 1) group (get_or (set lists own list) group d)
     at group d below =
         elim (eqb_tells own group) [
-          inl same ↦
-            let before : get_or lists own d ≡ old = any_default lists lists own d old refl inside ∙ sym found in
-            let member : is_member group task ≡ true = rw has same.0 in
-            let here = get_or-set_same lists own list d inside in
-            let more = IsMembers-more tasks upto group task (get_or lists group d) list there is member
+          | inl same ↦
+              let before : get_or lists own d ≡ old = any_default lists lists own d old refl inside ∙ sym found in
+              let member : is_member group task ≡ true = rw has same.0 in
+              let here = get_or-set_same lists own list d inside in
+              let more = IsMembers-more tasks upto group task (get_or lists group d) list there is member
               (numbers ∙ ap (λ (m : Members). m.numbers.items ++ upto ∷ []) (sym before) ∙ ap (λ (g : ℕ). (get_or lists g d).numbers.items ++ upto ∷ []) same.1)
               (added ∙ ap (λ (m : Members). m.tasks.items ++ task ∷ []) (sym before) ∙ ap (λ (g : ℕ). (get_or lists g d).tasks.items ++ task ∷ []) same.1)
               (are.lists_are group d below) in
-            subst (λ (m : Members). IsMembers tasks (upto + 1) group m) (sym here ∙ ap (λ (g : ℕ). get_or (set lists own list) g d) same.1) more
-        | inr differ ↦
-            let apart : group ≢ own = λ e. differ.1 (sym e) in
-            let other : is_member group task ≡ false = rw has differ.0 in
-            subst (λ (m : Members). IsMembers tasks (upto + 1) group m) (sym (get_or-set_other lists own group list d apart))
+              subst (λ (m : Members). IsMembers tasks (upto + 1) group m) (sym here ∙ ap (λ (g : ℕ). get_or (set lists own list) g d) same.1) more
+          | inr differ ↦
+              let apart : group ≢ own = λ e. differ.1 (sym e) in
+              let other : is_member group task ≡ false = rw has differ.0 in
+              subst (λ (m : Members). IsMembers tasks (upto + 1) group m) (sym (get_or-set_other lists own group list d apart))
               (IsMembers-other tasks upto group task (get_or lists group d) there is other (are.lists_are group d below))
         ]

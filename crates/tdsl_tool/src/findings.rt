@@ -1,16 +1,14 @@
 // What rules find in the datagrams of a plan.
-ghost use Rattle.std.specs.Prelude.{◌≡◌, ℕ, ◌+◌, ◌*◌, ◌^◌, ◌<◌, ◌≤◌, ◌∷◌, ◌++◌, List, length, map, All, OnOk};
-ghost use Rattle.capture_terms.specs.declared.plan.Task.{Task};
-ghost use Rattle.std.specs.Prelude.{Contains, []};
+ghost use Rattle.std.specs.Prelude.{◌≡◌, ℕ, ◌^◌, ◌<◌, ◌≤◌, ◌++◌, [], length, map, true, All, Contains, OnOk, IfOk, IsErrOf};
 ghost use Rattle.std.specs.Option.{option_map_or};
-ghost use Rattle.capture_terms.specs.Datagram.{datagram_from};
+ghost use Rattle.capture_terms.specs.Datagram.{datagram_from, incomplete, is_complete};
 ghost use Rattle.capture_terms.specs.Plan.{IsClassifiable, IsPlan};
 ghost use Rattle.capture_terms.specs.declared.capture.Capture.{Capture};
 ghost use Rattle.rule_terms.specs.Match as matches;
-ghost use Rattle.tdsl_tool.specs.Members.{AreMembers, IsGrouped};
+ghost use Rattle.tdsl_tool.specs.Members.{AreMembers, IsMembers, IsGrouped};
 ghost use Rattle.tdsl_tool.specs.declared.members.Members as declared;
 ghost use Rattle.report.specs.Report.{rule_of};
-ghost use Rattle.tdsl_tool.specs.Inspection.{finding_number, findings_in};
+ghost use Rattle.tdsl_tool.specs.Inspection.{all_findings, finding_number, findings_in};
 
 use crate::members::{Members, count_incomplete, members_by_group, whole_from};
 use capture_terms::task_law;
@@ -26,7 +24,9 @@ fn append(found: &mut Vec<u64>, frame: u32, here: &[(u16, u16)]) -> Result<(), A
     ensures added { OnOk result (found.new.items ≡ found.old.items ++ map (finding_number frame) here.now) }
 {
     for (rule, place) in here {
-        let number = u64::from(frame) * 4_294_967_296 + u64::from(*rule) * 65_536 + u64::from(*place);
+        let number = u64::from(frame) * 4_294_967_296
+            + u64::from(*rule) * 65_536
+            + u64::from(*place);
         found.push(number)?;
     }
     Ok(())
@@ -47,6 +47,25 @@ fn add_found(
     findings_are_there();
     let here = findings_of(alloc, rules, &first.header, payload)?;
     append(found, first.frame, &here)
+}
+
+// Adds what the rules find in the datagram of a complete group.
+fn add_group(
+    alloc: Global,
+    found: &mut Vec<u64>,
+    plan: &Plan,
+    list: &Members,
+    bytes: &[u8],
+    rules: &Rules,
+) -> Result<(), AllocError>
+    requires planned { (capture : Capture) × IsClassifiable bytes.now capture × IsPlan bytes.now capture plan.now }
+    requires whole { (group : ℕ) × IsMembers plan.now.tasks.items (length plan.now.tasks.items) group list.now }
+    requires complete { is_complete list.now.tasks.items ≡ true }
+    ensures added { OnOk result (found.new.items ≡ found.old.items ++ findings_in rules.now bytes.now list.now.tasks.items) }
+    ensures rules_there { All (λ (f : ℕ). rule_of f < length rules.now) found.old.items → OnOk result (All (λ (f : ℕ). rule_of f < length rules.now) found.new.items) }
+{
+    let payload = payload(alloc, plan, bytes, &list.numbers)?;
+    add_found(alloc, found, rules, &list.tasks[0], &payload)
 }
 
 // Adds what the rules find in the datagram that begins with a task, if one does.
@@ -71,14 +90,17 @@ fn add_findings(
     match task.group {
         None => {
             let from = task.from as usize;
-            add_found(alloc, found, rules, task, &bytes[from..from + task.length as usize])
+            add_found(
+                alloc,
+                found,
+                rules,
+                task,
+                &bytes[from..from + task.length as usize],
+            )
         }
         Some(group) => match whole_from(lists, group, task) {
             None => Ok(()),
-            Some(list) => {
-                let payload = payload(alloc, plan, bytes, &list.numbers)?;
-                add_found(alloc, found, rules, task, &payload)
-            }
+            Some(list) => add_group(alloc, found, plan, list, bytes, rules),
         },
     }
 }
@@ -100,10 +122,33 @@ pub enum FindingsEnd {
     Memory,
 }
 
-impl From<AllocError> for FindingsEnd {
-    fn from(_e: AllocError) -> FindingsEnd {
-        FindingsEnd::Memory
+// Matches the datagrams of a plan, whose tasks are listed by their groups.
+fn match_all(
+    alloc: Global,
+    plan: &Plan,
+    lists: &[Members],
+    bytes: &[u8],
+    rules: &Rules,
+) -> Result<Vec<u64>, FindingsEnd>
+    requires planned { (capture : Capture) × IsClassifiable bytes.now capture × IsPlan bytes.now capture plan.now }
+    requires lists { AreMembers plan.now.tasks.items (length plan.now.tasks.items) (length lists.now) lists.now }
+    requires grouped { All (IsGrouped (length lists.now)) plan.now.tasks.items }
+    requires few { All (λ (list : declared.Members). length list.tasks.items < 2 ^ 32) lists.now }
+    ensures findings { IfOk result (λ numbers. numbers.items ≡ all_findings rules.now bytes.now plan.now.tasks.items) }
+    ensures few { IfOk result (λ numbers. length numbers.items ≤ 65536) }
+    ensures rules_there { IfOk result (λ numbers. All (λ (f : ℕ). rule_of f < length rules.now) numbers.items) }
+    ensures too_many { IsErrOf result FindingsEnd.TooMany → 65536 < length (all_findings rules.now bytes.now plan.now.tasks.items) }
+{
+    let mut numbers = Vec::new(alloc);
+    for task in &plan.tasks {
+        let Ok(()) = add_findings(alloc, &mut numbers, plan, lists, bytes, rules, task) else {
+            return Err(FindingsEnd::Memory);
+        };
+        if numbers.len() > MAX_FINDINGS {
+            return Err(FindingsEnd::TooMany);
+        }
     }
+    Ok(numbers)
 }
 
 /// Matches the datagrams of a plan, in order of their first frames.
@@ -113,15 +158,21 @@ pub fn find_all(
     bytes: &[u8],
     rules: &Rules,
 ) -> Result<Found, FindingsEnd>
+    requires planned { (capture : Capture) × IsClassifiable bytes.now capture × IsPlan bytes.now capture plan.now }
+    requires few { length plan.now.tasks.items < 2 ^ 32 }
+    requires few_groups { length plan.now.groups.items < 2 ^ 32 }
+    requires grouped { All (IsGrouped (length plan.now.groups.items)) plan.now.tasks.items }
+    ensures findings { IfOk result (λ found. found.numbers.items ≡ all_findings rules.now bytes.now plan.now.tasks.items) }
+    ensures few { IfOk result (λ found. length found.numbers.items ≤ 65536) }
+    ensures incomplete { IfOk result (λ found. found.incomplete ≡ incomplete plan.now.tasks.items plan.now.groups.items) }
+    ensures open_groups { IfOk result (λ found. found.incomplete ≤ length plan.now.groups.items) }
+    ensures rules_there { IfOk result (λ found. All (λ (f : ℕ). rule_of f < length rules.now) found.numbers.items) }
+    ensures too_many { IsErrOf result FindingsEnd.TooMany → 65536 < length (all_findings rules.now bytes.now plan.now.tasks.items) }
 {
-    let lists = members_by_group(alloc, plan)?;
-    let mut numbers = Vec::new(alloc);
-    for task in &plan.tasks {
-        add_findings(alloc, &mut numbers, plan, &lists, bytes, rules, task)?;
-        if numbers.len() > MAX_FINDINGS {
-            return Err(FindingsEnd::TooMany);
-        }
-    }
+    let Ok(lists) = members_by_group(alloc, plan) else {
+        return Err(FindingsEnd::Memory);
+    };
+    let numbers = match_all(alloc, plan, &lists, bytes, rules)?;
     Ok(Found {
         numbers,
         incomplete: count_incomplete(&lists),

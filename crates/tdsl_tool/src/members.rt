@@ -80,9 +80,7 @@ pub fn is_whole(tasks: &[Task]) -> bool
     ensures { result ≡ is_complete tasks.now }
 {
     let size = size(tasks);
-    tasks
-        .iter()
-        .any(|task| task.last && size == u64::from(task.start) + u64::from(task.length))
+    tasks.iter().any(|task| task.last && size == u64::from(task.start) + u64::from(task.length))
 }
 
 /// The members of a group, where they make up a whole datagram that begins with this task.

@@ -1,4 +1,4 @@
-use Rattle.std.proofs.Common.{◌≡◌, ℕ, ◌<◌, length, subst, ap, refl, sym, arith}
+use Rattle.std.proofs.Common.{◌≡◌, ℕ, ◌<◌, length, subst, ap, arith}
 use Rattle.capture_terms.specs.declared.plan.Task.{Task}
 use Rattle.tdsl_tool.specs.Members.{AreMembers}
 use Rattle.tdsl_tool.proofs.MemberSteps.{any_default}
@@ -12,8 +12,8 @@ loop-number-preserved c =
     record {
       items = c.loop-number.invariant.items;
       are = c.in_ok-add_task.ensures c.args.plan.now.tasks.items (length c.args.plan.now.groups.items) there
-        (any_default _ _ c.loop-number.number _ _ c.deref-task-items.ensures.value inside)
-        c.loop-number.invariant.are;
+          (any_default _ _ c.loop-number.number _ _ c.deref-task-items.ensures.value inside)
+          c.loop-number.invariant.are;
     }
 
 pub returns : goal.returns
