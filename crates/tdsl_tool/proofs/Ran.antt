@@ -17,8 +17,8 @@ SomeAnswer = (bytes : List ℕ) → (answer : Answer) × IsAnswer bytes answer
 some_capture_file : SomeAnswer → (bytes : List ℕ) → (file : CaptureFile) × IsCaptureFile bytes file
 some_capture_file law bytes =
     elim (cases_lt max_file (length bytes)) [
-      inl long ↦ (long_capture, long)
-    | inr short ↦ (answer_is (law bytes).0, (short, (law bytes).1))
+      | inl long ↦ (long_capture, long)
+      | inr short ↦ (answer_is (law bytes).0, (short, (law bytes).1))
     ]
 
 -- the status of the verdict that an ending follows from: a report that wasn't written counts as one
@@ -87,8 +87,8 @@ module _ (one : VerdictIsOne) (some : SomeAnswer) (reading : Reading) (out : Wri
     found_status : (ending : Ending) (status : ℕ) → EndsSo reading out ending → HasStatus text bytes status → ((status_of ending ≡ 7) ⊎ (status_of ending ≡ 2)) ⊎ (decided ending ≡ status)
     found_status ending status ends has =
         elim (verdict_found ending ends) [
-          inl other ↦ inl other
-        | inr found ↦ inr (sym found.1 ∙ ap verdict_status (one text bytes found.0 has.0 found.2 has.2) ∙ has.1)
+          | inl other ↦ inl other
+          | inr found ↦ inr (sym found.1 ∙ ap verdict_status (one text bytes found.0 has.0 found.2 has.2) ∙ has.1)
         ]
 
     -- 5 and 6 come exactly where the verdict has that status
@@ -98,21 +98,22 @@ module _ (one : VerdictIsOne) (some : SomeAnswer) (reading : Reading) (out : Wri
         only : status ≡ wanted → HasStatus text bytes wanted
         only same =
             elim (verdict_found ending ends) [
-              inl (inl seven) ↦ absurd (omega arith)
-            | inl (inr two) ↦ absurd (omega arith)
-            | inr found ↦ elim (decided_is ending) [
-                inl other ↦ absurd (omega arith)
-              | inr equal ↦ subst (λ (n : ℕ). HasStatus text bytes n) (equal ∙ sym is ∙ same) found
+              | inl (inl seven) ↦ absurd (omega arith)
+              | inl (inr two) ↦ absurd (omega arith)
+              | inr found ↦ elim (decided_is ending) [
+                | inl other ↦ absurd (omega arith)
+                | inr equal ↦ subst (λ (n : ℕ). HasStatus text bytes n) (equal ∙ sym is ∙ same) found
               ]
             ]
+
         back : HasStatus text bytes wanted → EndsBy status wanted
         back has =
             elim (found_status ending wanted ends has) [
-              inl (inl seven) ↦ inr (inl (is ∙ seven))
-            | inl (inr two) ↦ inr (inr (is ∙ two))
-            | inr found ↦ elim (decided_is ending) [
-                inl other ↦ absurd (omega arith)
-              | inr equal ↦ inl (is ∙ sym equal ∙ found)
+              | inl (inl seven) ↦ inr (inl (is ∙ seven))
+              | inl (inr two) ↦ inr (inr (is ∙ two))
+              | inr found ↦ elim (decided_is ending) [
+                | inl other ↦ absurd (omega arith)
+                | inr equal ↦ inl (is ∙ sym equal ∙ found)
               ]
             ]
 
@@ -120,11 +121,11 @@ module _ (one : VerdictIsOne) (some : SomeAnswer) (reading : Reading) (out : Wri
     written : (ending : Ending) (status : ℕ) → EndsSo reading out ending → status ≡ status_of ending → HasStatus text bytes 0 → ¬ FailedFor reading reading.names.rules → ¬ FailedFor reading reading.names.capture → ¬ Rose out.faults_before out.faults_after → (status ≡ 0) ⊎ (status ≡ 7)
     written ending status ends is has rules_read capture_read out_written =
         elim (found_status ending 0 ends has) [
-          inl (inl seven) ↦ inr (is ∙ seven)
-        | inl (inr two) ↦ elim (read_cause ending ends two) [ inl failed ↦ absurd (rules_read failed) | inr failed ↦ absurd (capture_read failed.0) ]
-        | inr found ↦ elim (decided_is ending) [
-            inl other ↦ absurd (out_written (write_cause ending ends other.0).3)
-          | inr equal ↦ inl (is ∙ sym equal ∙ found)
+          | inl (inl seven) ↦ inr (is ∙ seven)
+          | inl (inr two) ↦ elim (read_cause ending ends two) [ inl failed ↦ absurd (rules_read failed) | inr failed ↦ absurd (capture_read failed.0) ]
+          | inr found ↦ elim (decided_is ending) [
+            | inl other ↦ absurd (out_written (write_cause ending ends other.0).3)
+            | inr equal ↦ inl (is ∙ sym equal ∙ found)
           ]
         ]
 
@@ -150,21 +151,21 @@ module _ (one : VerdictIsOne) (some : SomeAnswer) (reading : Reading) (out : Wri
     unbuilt_ends : (ending : Ending) (status : ℕ) → EndsSo reading out ending → status ≡ status_of ending → IsRuleFile text no_rules → EndsBy status 8
     unbuilt_ends ending status ends is no_text =
         elim (rule_file ending ends) [
-          inl are ↦ absurd (no_text.1 are.0 are.1.1)
-        | inr (inl (inl seven)) ↦ inr (inl (is ∙ seven))
-        | inr (inl (inr two)) ↦ inr (inr (is ∙ two))
-        | inr (inr (inl long)) ↦ absurd (omega (arith, no_text.0, long.1))
-        | inr (inr (inr unbuilt)) ↦ inl (is ∙ unbuilt.0)
+          | inl are ↦ absurd (no_text.1 are.0 are.1.1)
+          | inr (inl (inl seven)) ↦ inr (inl (is ∙ seven))
+          | inr (inl (inr two)) ↦ inr (inr (is ∙ two))
+          | inr (inr (inl long)) ↦ absurd (omega (arith, no_text.0, long.1))
+          | inr (inr (inr unbuilt)) ↦ inl (is ∙ unbuilt.0)
         ]
 
     long_ends : (ending : Ending) (status : ℕ) → EndsSo reading out ending → status ≡ status_of ending → IsRuleFile text long_rules → EndsBy status 6
     long_ends ending status ends is too_long =
         elim (rule_file ending ends) [
-          inl are ↦ absurd (omega (arith, too_long, are.1.0))
-        | inr (inl (inl seven)) ↦ inr (inl (is ∙ seven))
-        | inr (inl (inr two)) ↦ inr (inr (is ∙ two))
-        | inr (inr (inl long)) ↦ inl (is ∙ long.0)
-        | inr (inr (inr unbuilt)) ↦ absurd (omega (arith, too_long, unbuilt.1.0))
+          | inl are ↦ absurd (omega (arith, too_long, are.1.0))
+          | inr (inl (inl seven)) ↦ inr (inl (is ∙ seven))
+          | inr (inl (inr two)) ↦ inr (inr (is ∙ two))
+          | inr (inr (inl long)) ↦ inl (is ∙ long.0)
+          | inr (inr (inr unbuilt)) ↦ absurd (omega (arith, too_long, unbuilt.1.0))
         ]
 
 -- what holds of the names that the words have holds of each that they have
@@ -207,21 +208,21 @@ ran_named one some run names ending is words ends tells =
       usage = (λ usage. absurd (not_usage one some reading out ending (sym is ∙ usage)), λ none. cc);
       read = λ two. named run.words names (λ n. FailedFor (reading_of run n) n.rules ⊎ (FailedFor (reading_of run n) n.capture × IfRulesTold (reading_of run n) AreRules)) words (read_cause one some reading out ending ends (sym is ∙ two));
       write = λ three.
-        let cause = write_cause one some reading out ending ends (sym is ∙ three) in
-        (cause.3, named run.words names (λ n. (text : List ℕ) × IsReport (reading_of run n) text × GrowsByPrefix out.before out.after text) words (cause.0, cause.1, cause.2));
+          let cause = write_cause one some reading out ending ends (sym is ∙ three) in
+          (cause.3, named run.words names (λ n. (text : List ℕ) × IsReport (reading_of run n) text × GrowsByPrefix out.before out.after text) words (cause.0, cause.1, cause.2));
       unbuilt_rules = named run.words names (λ n. IfRulesTold (reading_of run n) (λ text. Exactly run.status 8 (IsRuleFile text no_rules))) words
-        (λ text told. (λ eight. unbuilt_cause one some reading out ending ends (sym is ∙ eight) text told, unbuilt_ends one some reading out text told ending run.status ends is));
+          (λ text told. (λ eight. unbuilt_cause one some reading out ending ends (sym is ∙ eight) text told, unbuilt_ends one some reading out text told ending run.status ends is));
       long_rule_file = named run.words names (λ n. IfRulesTold (reading_of run n) (λ text. IsRuleFile text long_rules → EndsBy run.status 6)) words
-        (λ text told. long_ends one some reading out text told ending run.status ends is);
+          (λ text told. long_ends one some reading out text told ending run.status ends is);
       bad_capture_file = named run.words names (λ n. IfBothTold (reading_of run n) (λ text bytes. Exactly run.status 5 (HasStatus text bytes 5))) words
-        (λ text told bytes told'. exactly one some reading out text bytes told told' ending run.status 5 ends is (omega arith) (omega arith));
+          (λ text told bytes told'. exactly one some reading out text bytes told told' ending run.status 5 ends is (omega arith) (omega arith));
       limit = named run.words names (λ n. IfBothTold (reading_of run n) (λ text bytes. Exactly run.status 6 (HasStatus text bytes 6))) words
-        (λ text told bytes told'. exactly one some reading out text bytes told told' ending run.status 6 ends is (omega arith) (omega arith));
+          (λ text told bytes told'. exactly one some reading out text bytes told told' ending run.status 6 ends is (omega arith) (omega arith));
       report = λ zero. named run.words names (λ n. (text : List ℕ) × IsReport (reading_of run n) text × Grows out.before out.after text) words (report_cause one some reading out ending ends (sym is ∙ zero));
       complete = λ others are text told bytes told' has reads outs.
-        let same : names ≡ others = cc in
-        let read = reads names words in
-        written one some reading out text bytes (ap (λ (n : Names). run.content n.rules) same ∙ told) (ap (λ (n : Names). run.content n.capture) same ∙ told') ending run.status ends is has read.0 read.1 outs;
+          let same : names ≡ others = cc in
+          let read = reads names words in
+          written one some reading out text bytes (ap (λ (n : Names). run.content n.rules) same ∙ told) (ap (λ (n : Names). run.content n.capture) same ∙ told') ending run.status ends is has read.0 read.1 outs;
       quiet = λ zero. quiet_cause run.faults names ending tells (sym is ∙ zero);
       usage_line = λ usage. absurd (not_usage one some reading out ending (sym is ∙ usage));
       fault_line = named run.words names (λ n. (e : Ending) × (run.status ≡ status_of e) × EndsSo (reading_of run n) out e × Tells run.faults n e) words (ending, is, ends, tells);

@@ -63,13 +63,13 @@ module _ (rules : List Rule) (bytes : List ℕ) (capture : Capture) (plan : Plan
         capture = answer_is (captured contents);
         capture_is = (short, says);
         comes_to = ap reports
-          (text_is ∙ written rules capture plan open_groups findings
-          ∙ ap (λ (c : List Class). text_from rules contents c plan.groups.items open_groups findings) is.classes
-          ∙ ap (λ (g : List Group). text_from rules contents (classes_of (kinds_of bytes capture)) g open_groups findings) is.groups
-          ∙ ap (λ (n : ℕ). text_from rules contents (classes_of (kinds_of bytes capture)) (groups_of (kinds_of bytes capture)) n findings) open_of
-          ∙ ap (text_from rules contents (classes_of (kinds_of bytes capture)) (groups_of (kinds_of bytes capture)) (incomplete (tasks_of (kinds_of bytes capture)) (groups_of (kinds_of bytes capture)))) all
-          ∙ reported rules bytes capture)
-          ∙ under_few rules bytes contents few_of;
+            (text_is ∙ written rules capture plan open_groups findings
+            ∙ ap (λ (c : List Class). text_from rules contents c plan.groups.items open_groups findings) is.classes
+            ∙ ap (λ (g : List Group). text_from rules contents (classes_of (kinds_of bytes capture)) g open_groups findings) is.groups
+            ∙ ap (λ (n : ℕ). text_from rules contents (classes_of (kinds_of bytes capture)) (groups_of (kinds_of bytes capture)) n findings) open_of
+            ∙ ap (text_from rules contents (classes_of (kinds_of bytes capture)) (groups_of (kinds_of bytes capture)) (incomplete (tasks_of (kinds_of bytes capture)) (groups_of (kinds_of bytes capture)))) all
+            ∙ reported rules bytes capture)
+            ∙ under_few rules bytes contents few_of;
       }
 
   -- more findings than a report may have

@@ -29,8 +29,8 @@ module _ (reading : Reading) (rules : List Rule) (are : IfRulesTold reading (λ 
   comes_to verdict under = record {
     rules = λ text told. (rules, are text told);
     verdict_is = λ text told bytes told'.
-      let here = under bytes told' in
-      record { rules = rules_are rules; capture = here.capture; rules_are = are text told; capture_is = here.capture_is; comes_to = here.comes_to };
+        let here = under bytes told' in
+        record { rules = rules_are rules; capture = here.capture; rules_are = are text told; capture_is = here.capture_is; comes_to = here.comes_to };
   }
 
   module _ (bytes : List ℕ) (whole : IfTold (reading.content reading.names.capture) (λ told. bytes ≡ told)) where

@@ -68,4 +68,3 @@ report_of rules bytes contents =
     let findings = findings_of_capture rules bytes contents in
     let open_groups = incomplete (tasks_of kinds) groups in
     text_of (map count_line (counts_in contents (classes_of kinds) groups open_groups (length findings)) ++ map (finding_line rules) findings)
-

@@ -183,37 +183,26 @@ HasStatus text bytes status = (verdict : Verdict) × (verdict_status verdict ≡
 pub record Ran (run : Run) : Type 0 where
   -- 1 comes exactly where the words aren't `inspect RULES CAPTURE`
   pub usage : (run.status ≡ 1) ↔ (names_in run.words ≡ None)
-
   -- 2 comes only where calls for the rule file failed, or calls for the capture file behind rules that stand
   pub read : run.status ≡ 2 → IfNamed run (λ reading. FailedFor reading reading.names.rules ⊎ (FailedFor reading reading.names.capture × IfRulesTold reading AreRules))
-
   -- 3 comes only where calls of standard output failed, and a prefix of the report was written
   pub write : run.status ≡ 3 → Rose run.out.faults_before run.out.faults_after × IfNamed run (λ reading. (text : List ℕ) × IsReport reading text × GrowsByPrefix run.out.before run.out.after text)
-
   -- 8 comes exactly where the rule file isn't too long and no rule text
   pub unbuilt_rules : IfNamed run (λ reading. IfRulesTold reading (λ text. Exactly run.status 8 (IsRuleFile text no_rules)))
-
   -- 6 comes where the rule file is too long
   pub long_rule_file : IfNamed run (λ reading. IfRulesTold reading (λ text. IsRuleFile text long_rules → EndsBy run.status 6))
-
   -- 5 comes exactly where the rules stand and the capture file is refused for its format
   pub bad_capture_file : IfTold2 run (λ text bytes. Exactly run.status 5 (HasStatus text bytes 5))
-
   -- 6 comes exactly where a file is too long, or there are too many frames or findings
   pub limit : IfTold2 run (λ text bytes. Exactly run.status 6 (HasStatus text bytes 6))
-
   -- with 0 the report was written
   pub report : run.status ≡ 0 → IfNamed run (λ reading. (text : List ℕ) × IsReport reading text × Grows run.out.before run.out.after text)
-
   -- where there is a report and no call for it failed, it is written, unless memory was wanted
   pub complete : IfTold2 run (λ text bytes. HasStatus text bytes 0 → (IfNamed run (λ reading. ¬ FailedFor reading reading.names.rules × ¬ FailedFor reading reading.names.capture)) → ¬ Rose run.out.faults_before run.out.faults_after → (run.status ≡ 0) ⊎ (run.status ≡ 7))
-
   -- with 0 nothing is told on standard error, and with 1 the usage
   pub quiet : run.status ≡ 0 → run.faults.after ≡ run.faults.before
   pub usage_line : run.status ≡ 1 → TellsLine run.faults usage_words
-
   -- the line on standard error is that of the status and its cause
   pub fault_line : IfNamed run (λ reading. (ending : Ending) × (run.status ≡ status_of ending) × EndsSo reading run.out ending × Tells run.faults reading.names ending)
-
   -- with a status other than 0 and 3 nothing is written
   pub nothing_out : run.status ≢ 0 → run.status ≢ 3 → run.out.after ≡ run.out.before

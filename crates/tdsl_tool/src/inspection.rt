@@ -47,7 +47,14 @@ pub fn report_under(alloc: Global, rules: &Rules, bytes: &[u8]) -> Result<Vec<u8
         Err(FindingsEnd::TooMany) => return Err(Ending::TooManyFindings),
         Err(FindingsEnd::Memory) => return Err(Ending::Memory),
     };
-    match report_text(alloc, &capture, &plan, rules, found.incomplete, &found.numbers) {
+    match report_text(
+        alloc,
+        &capture,
+        &plan,
+        rules,
+        found.incomplete,
+        &found.numbers,
+    ) {
         Ok(text) => Ok(text),
         Err(_) => Err(Ending::Memory),
     }

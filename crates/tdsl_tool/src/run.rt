@@ -21,8 +21,11 @@ const MAX_FILE: u64 = 67_108_864;
 fn rules_from<F: Files>(alloc: Global, files: &mut F, names: FileNames<'_>) -> Result<Rules, Ending>
     ensures rules { IfOk result (λ rules. IfTold (F.content files.old names.entry.rules.now) (λ text. IsRuleFile text (rules_are rules))) }
     ensures stops { IfErr result (StopsAtRules (record {
-        names = record { rules = names.entry.rules.now; capture = names.entry.capture.now };
-        content = F.content files.old; before = F.faults files.old; after = F.faults files.new })) }
+      names = record { rules = names.entry.rules.now; capture = names.entry.capture.now };
+      content = F.content files.old;
+      before = F.faults files.old;
+      after = F.faults files.new;
+    })) }
     ensures content { (file : List ℕ) → F.content files.new file ≡ F.content files.old file }
     ensures counts { (file : List ℕ) → F.faults files.old file ≤ F.faults files.new file }
 {
@@ -39,13 +42,23 @@ fn rules_from<F: Files>(alloc: Global, files: &mut F, names: FileNames<'_>) -> R
     }
 }
 
-fn report_for<F: Files>(alloc: Global, files: &mut F, names: FileNames<'_>) -> Result<Vec<u8>, Ending>
+fn report_for<F: Files>(
+    alloc: Global,
+    files: &mut F,
+    names: FileNames<'_>,
+) -> Result<Vec<u8>, Ending>
     ensures report { IfOk result (λ text. IsReport (record {
-        names = record { rules = names.entry.rules.now; capture = names.entry.capture.now };
-        content = F.content files.old; before = F.faults files.old; after = F.faults files.new }) text.items) }
+      names = record { rules = names.entry.rules.now; capture = names.entry.capture.now };
+      content = F.content files.old;
+      before = F.faults files.old;
+      after = F.faults files.new;
+    }) text.items) }
     ensures stops { IfErr result (StopsAt (record {
-        names = record { rules = names.entry.rules.now; capture = names.entry.capture.now };
-        content = F.content files.old; before = F.faults files.old; after = F.faults files.new })) }
+      names = record { rules = names.entry.rules.now; capture = names.entry.capture.now };
+      content = F.content files.old;
+      before = F.faults files.old;
+      after = F.faults files.new;
+    })) }
     ensures content { (file : List ℕ) → F.content files.new file ≡ F.content files.old file }
     ensures counts { (file : List ℕ) → F.faults files.old file ≤ F.faults files.new file }
 {
@@ -66,8 +79,11 @@ fn ending_of<F: Files, O: Sink>(
     names: FileNames<'_>,
 ) -> Ending
     ensures ends { EndsSo (record {
-        names = record { rules = names.entry.rules.now; capture = names.entry.capture.now };
-        content = F.content files.old; before = F.faults files.old; after = F.faults files.new })
+      names = record { rules = names.entry.rules.now; capture = names.entry.capture.now };
+      content = F.content files.old;
+      before = F.faults files.old;
+      after = F.faults files.new;
+    })
         (record { before = O.written out.old; after = O.written out.new; faults_before = O.faults out.old; faults_after = O.faults out.new }) result }
     ensures content { (file : List ℕ) → F.content files.new file ≡ F.content files.old file }
     ensures counts { (file : List ℕ) → F.faults files.old file ≤ F.faults files.new file }
@@ -116,13 +132,14 @@ pub fn run_with<Rt, F: Files, O: Sink, E: Sink>(
     faults: &mut E,
 ) -> u8
     ensures ran { Ran (record {
-        words = map (λ w. string_bytes w) words.now;
-        content = F.content files.old;
-        before = F.faults files.old;
-        after = F.faults files.new;
-        out = record { before = O.written out.old; after = O.written out.new; faults_before = O.faults out.old; faults_after = O.faults out.new };
-        faults = record { before = E.written faults.old; after = E.written faults.new; faults_before = E.faults faults.old; faults_after = E.faults faults.new };
-        status = result }) }
+      words = map (λ w. string_bytes w) words.now;
+      content = F.content files.old;
+      before = F.faults files.old;
+      after = F.faults files.new;
+      out = record { before = O.written out.old; after = O.written out.new; faults_before = O.faults out.old; faults_after = O.faults out.new };
+      faults = record { before = E.written faults.old; after = E.written faults.new; faults_before = E.faults faults.old; faults_after = E.faults faults.new };
+      status = result;
+    }) }
 
     // The contents stay, and no count falls.
     ensures content { (file : List ℕ) → F.content files.new file ≡ F.content files.old file }

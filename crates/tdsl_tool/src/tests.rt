@@ -5,6 +5,7 @@ use std::alloc::{AllocError, Global};
 use std::test::Fail;
 
 const GREET: &[u8] = b"rule greet proto udp dport 53 has \"hello\"";
+
 const SEAM: &[u8] = b"rule seam proto icmp has \"ghij\"";
 
 const HEADER: [u8; 24] = [
@@ -38,7 +39,13 @@ struct Run {
     faults: Vec<u8>,
 }
 
-fn inspected(alloc: Global, words: &[&str], rules: &[u8], capture: &[u8], failing: u64) -> Result<Run, AllocError> {
+fn inspected(
+    alloc: Global,
+    words: &[&str],
+    rules: &[u8],
+    capture: &[u8],
+    failing: u64,
+) -> Result<Run, AllocError> {
     let mut list = Vec::new(alloc);
     for word in words {
         list.push(String::from_str(alloc, *word)?)?;
@@ -66,7 +73,9 @@ fn fragments(alloc: Global, list: &[Fragment]) -> Result<Vec<u8>, AllocError> {
         let length = (34 + fragment.data.len().min(200)) as u8;
         let flags = fragment.at / 8 % 8192;
         let more = if fragment.more { 0x20 } else { 0 };
-        capture.extend_from_slice(&[number, 0, 0, 0, 0, 0, 0, 0, length, 0, 0, 0, length, 0, 0, 0])?;
+        capture.extend_from_slice(&[
+            number, 0, 0, 0, 0, 0, 0, 0, length, 0, 0, 0, length, 0, 0, 0,
+        ])?;
         capture.extend_from_slice(&[2, 0, 0, 0, 0, 2, 2, 0, 0, 0, 0, 1, 8, 0])?;
         capture.extend_from_slice(&[0x45, 0, 0, length - 14, 0, fragment.id])?;
         capture.extend_from_slice(&[(flags / 256) as u8 + more, (flags % 256) as u8, 64, 1, 0, 0])?;
@@ -80,8 +89,17 @@ fn fragments(alloc: Global, list: &[Fragment]) -> Result<Vec<u8>, AllocError> {
 // The report with these counts and finding lines.
 fn report(alloc: Global, counts: [u8; 11], findings: &str) -> Result<Vec<u8>, AllocError> {
     let words = [
-        "frames", "other", "bad", "cut", "whole", "kept", "aside", "torn", "datagrams",
-        "incomplete", "findings",
+        "frames",
+        "other",
+        "bad",
+        "cut",
+        "whole",
+        "kept",
+        "aside",
+        "torn",
+        "datagrams",
+        "incomplete",
+        "findings",
     ];
     let mut text = String::new(alloc);
     for (word, count) in words.iter().zip(counts) {
@@ -102,15 +120,39 @@ fn reports_are_those_of_the_captures(rt: HostRuntime) -> Result<(), Fail> {
     torn.extend_from_slice(&[0; 10])?;
     for (capture, counts, findings) in [
         (HEADER.as_slice(), [0; 11], ""),
-        (hello.as_slice(), [1, 0, 0, 0, 1, 0, 0, 0, 1, 0, 1], "finding 0 greet 8\n"),
-        (torn.as_slice(), [1, 0, 0, 0, 1, 0, 0, 10, 1, 0, 1], "finding 0 greet 8\n"),
+        (
+            hello.as_slice(),
+            [1, 0, 0, 0, 1, 0, 0, 0, 1, 0, 1],
+            "finding 0 greet 8\n",
+        ),
+        (
+            torn.as_slice(),
+            [1, 0, 0, 0, 1, 0, 0, 10, 1, 0, 1],
+            "finding 0 greet 8\n",
+        ),
     ] {
         let got = inspected(alloc, &COMMAND, GREET, capture, 0)?;
         assert_eq!(rt; got.status, 0);
-        assert_eq!(rt; got.out.as_slice(), report(alloc, counts, findings)?.as_slice());
+        assert_eq!(rt;
+            got.out.as_slice(),
+            report(alloc, counts, findings)?.as_slice()
+        );
         assert_eq!(rt; got.faults.as_slice(), b"".as_slice());
     }
     Ok(())
+}
+
+// Whether the capture of these fragments gives the report with these counts and finding lines.
+fn gives(
+    alloc: Global,
+    rules: &[u8],
+    list: &[Fragment],
+    counts: [u8; 11],
+    findings: &str,
+) -> Result<bool, AllocError> {
+    let capture = fragments(alloc, list)?;
+    let got = inspected(alloc, &COMMAND, rules, &capture, 0)?;
+    Ok(got.status == 0 && got.out.as_slice() == report(alloc, counts, findings)?.as_slice())
 }
 
 #[test]
@@ -118,52 +160,64 @@ fn fragments_make_datagrams(rt: HostRuntime) -> Result<(), Fail> {
     let alloc = rt.alloc();
     let first = piece(1, 0, true, b"abcdefgh");
     let last = piece(1, 8, false, b"ijkl");
-    for (rules, list, counts, findings) in [
-        (SEAM, [last, first].as_slice(), [2, 0, 0, 0, 0, 2, 0, 0, 1, 0, 1], "finding 0 seam 6\n"),
-        (
-            b"rule one proto icmp has \"ijkl\"\nrule two proto icmp has \"XXXX\"",
-            [
-                piece(1, 0, true, b"abcdefghijklmnop"),
-                piece(1, 8, true, b"XXXXXXXXYYYYYYYY"),
-                piece(1, 16, false, b"qrst"),
-            ]
-            .as_slice(),
-            [3, 0, 0, 0, 0, 2, 1, 0, 1, 0, 1],
-            "finding 0 one 8\n",
-        ),
-        (SEAM, [first, first, last].as_slice(), [3, 0, 0, 0, 0, 2, 1, 0, 1, 0, 1], "finding 0 seam 6\n"),
-        (
-            b"rule head proto any has \"abcd\"",
-            [first].as_slice(),
-            [1, 0, 0, 0, 0, 1, 0, 0, 0, 1, 0],
-            "",
-        ),
-        (
-            SEAM,
-            [piece(2, 65512, false, b"abc"), piece(3, 65512, false, b"abcd")].as_slice(),
-            [2, 0, 1, 0, 0, 1, 0, 0, 0, 1, 0],
-            "",
-        ),
-        (
-            SEAM,
-            [last, piece(1, 16, true, b"abcdefgh"), piece(1, 24, false, b"x")].as_slice(),
-            [3, 0, 0, 0, 0, 1, 2, 0, 0, 1, 0],
-            "",
-        ),
-        (SEAM, [piece(1, 0, true, b"abcdefghijkl")].as_slice(), [1, 0, 1, 0, 0, 0, 0, 0, 0, 0, 0], ""),
-    ] {
-        let capture = fragments(alloc, list)?;
-        let got = inspected(alloc, &COMMAND, rules, &capture, 0)?;
-        assert_eq!(rt; got.status, 0);
-        assert_eq!(rt; got.out.as_slice(), report(alloc, counts, findings)?.as_slice());
-    }
+    let found = "finding 0 seam 6\n";
+    let both = gives(
+        alloc,
+        SEAM,
+        &[last, first],
+        [2, 0, 0, 0, 0, 2, 0, 0, 1, 0, 1],
+        found,
+    )?;
+    assert!(rt; both, "the last fragment first");
+    let rules = b"rule one proto icmp has \"ijkl\"\nrule two proto icmp has \"XXXX\"";
+    let list = [
+        piece(1, 0, true, b"abcdefghijklmnop"),
+        piece(1, 8, true, b"XXXXXXXXYYYYYYYY"),
+        piece(1, 16, false, b"qrst"),
+    ];
+    let overlap = gives(
+        alloc,
+        rules,
+        &list,
+        [3, 0, 0, 0, 0, 2, 1, 0, 1, 0, 1],
+        "finding 0 one 8\n",
+    )?;
+    assert!(rt; overlap, "the second fragment overlaps the first");
+    let twice = gives(
+        alloc,
+        SEAM,
+        &[first, first, last],
+        [3, 0, 0, 0, 0, 2, 1, 0, 1, 0, 1],
+        found,
+    )?;
+    assert!(rt; twice, "one fragment twice");
+    let head = b"rule head proto any has \"abcd\"";
+    let open = gives(alloc, head, &[first], [1, 0, 0, 0, 0, 1, 0, 0, 0, 1, 0], "")?;
+    assert!(rt; open, "the last fragment is missing");
+    let list = [
+        piece(2, 65512, false, b"abc"),
+        piece(3, 65512, false, b"abcd"),
+    ];
+    let far = gives(alloc, SEAM, &list, [2, 0, 1, 0, 0, 1, 0, 0, 0, 1, 0], "")?;
+    assert!(rt; far, "the greatest end, and one beyond it");
+    let list = [
+        last,
+        piece(1, 16, true, b"abcdefgh"),
+        piece(1, 24, false, b"x"),
+    ];
+    let behind = gives(alloc, SEAM, &list, [3, 0, 0, 0, 0, 1, 2, 0, 0, 1, 0], "")?;
+    assert!(rt; behind, "fragments behind the last one");
+    let list = [piece(1, 0, true, b"abcdefghijkl")];
+    let ragged = gives(alloc, SEAM, &list, [1, 0, 1, 0, 0, 0, 0, 0, 0, 0, 0], "")?;
+    assert!(rt; ragged, "a length that is no multiple of 8");
     Ok(())
 }
 
 #[test]
 fn faults_are_told_with_their_status(rt: HostRuntime) -> Result<(), Fail> {
     let alloc = rt.alloc();
-    let usage = "usage: inspect|journal [--workers N] [--findings N] RULES CAPTURE | make SEED FRAMES | trial [--workers N] SEED FRAMES\n";
+    let usage =
+        "usage: inspect|journal [--workers N] [--findings N] RULES CAPTURE | make SEED FRAMES | trial [--workers N] SEED FRAMES\n";
     let mut hello = HEADER.to_vec(alloc)?;
     hello.extend_from_slice(&HELLO)?;
     let mut other_link = hello.as_slice().to_vec(alloc)?;
@@ -171,15 +225,71 @@ fn faults_are_told_with_their_status(rt: HostRuntime) -> Result<(), Fail> {
         other_link[20] = 147;
     }
     for (words, rules, capture, failing, status, line) in [
-        (["inspect", "r"].as_slice(), GREET, hello.as_slice(), 0, 1, usage),
+        (
+            ["inspect", "r"].as_slice(),
+            GREET,
+            hello.as_slice(),
+            0,
+            1,
+            usage,
+        ),
         ([].as_slice(), GREET, hello.as_slice(), 0, 1, usage),
-        (["inspect", "--workers", "c"].as_slice(), GREET, hello.as_slice(), 0, 1, usage),
-        (["inspect", "q", "c"].as_slice(), GREET, hello.as_slice(), 0, 2, "read fault: q\n"),
-        (["inspect", "r", "q"].as_slice(), GREET, hello.as_slice(), 0, 2, "read fault: q\n"),
-        (COMMAND.as_slice(), GREET, hello.as_slice(), 1, 3, "write fault\n"),
-        (COMMAND.as_slice(), GREET, &HEADER[..23], 0, 5, "bad capture: header at 23\n"),
-        (COMMAND.as_slice(), GREET, other_link.as_slice(), 0, 5, "bad capture: link 147 at 20\n"),
-        (COMMAND.as_slice(), b"rule x proto udp".as_slice(), hello.as_slice(), 0, 8, "unbuilt: rules\n"),
+        (
+            ["inspect", "--workers", "c"].as_slice(),
+            GREET,
+            hello.as_slice(),
+            0,
+            1,
+            usage,
+        ),
+        (
+            ["inspect", "q", "c"].as_slice(),
+            GREET,
+            hello.as_slice(),
+            0,
+            2,
+            "read fault: q\n",
+        ),
+        (
+            ["inspect", "r", "q"].as_slice(),
+            GREET,
+            hello.as_slice(),
+            0,
+            2,
+            "read fault: q\n",
+        ),
+        (
+            COMMAND.as_slice(),
+            GREET,
+            hello.as_slice(),
+            1,
+            3,
+            "write fault\n",
+        ),
+        (
+            COMMAND.as_slice(),
+            GREET,
+            &HEADER[..23],
+            0,
+            5,
+            "bad capture: header at 23\n",
+        ),
+        (
+            COMMAND.as_slice(),
+            GREET,
+            other_link.as_slice(),
+            0,
+            5,
+            "bad capture: link 147 at 20\n",
+        ),
+        (
+            COMMAND.as_slice(),
+            b"rule x proto udp".as_slice(),
+            hello.as_slice(),
+            0,
+            8,
+            "unbuilt: rules\n",
+        ),
     ] {
         let got = inspected(alloc, words, rules, capture, failing)?;
         assert_eq!(rt; got.status, status, "{line}");
