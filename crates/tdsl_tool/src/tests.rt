@@ -187,77 +187,74 @@ fn reports_are_those_of_the_captures(rt: HostRuntime) -> Result<(), Fail> {
     Ok(())
 }
 
+// Whether the capture of these fragments gives the report with these counts and finding lines.
+fn gives(
+    alloc: Global,
+    rules: &[u8],
+    list: &[Fragment],
+    counts: [u8; 11],
+    findings: &str,
+) -> Result<bool, AllocError> {
+    let capture = fragments(alloc, list)?;
+    let got = inspected(alloc, &COMMAND, rules, &capture, 0)?;
+    Ok(got.status == 0 && got.out.as_slice() == report(alloc, counts, findings)?.as_slice())
+}
+
 #[test]
 fn fragments_make_datagrams(rt: HostRuntime) -> Result<(), Fail> {
     let alloc = rt.alloc();
     let first = piece(1, 0, true, b"abcdefgh");
     let last = piece(1, 8, false, b"ijkl");
-    for (rules, list, counts, findings) in [
-        (
-            SEAM,
-            [last, first].as_slice(),
-            [2, 0, 0, 0, 0, 2, 0, 0, 1, 0, 1],
-            "finding 0 seam 6\n",
-        ),
-        (
-            b"rule one proto icmp has \"ijkl\"\nrule two proto icmp has \"XXXX\"",
-            [
-                piece(1, 0, true, b"abcdefghijklmnop"),
-                piece(1, 8, true, b"XXXXXXXXYYYYYYYY"),
-                piece(1, 16, false, b"qrst"),
-            ]
-            .as_slice(),
-            [3, 0, 0, 0, 0, 2, 1, 0, 1, 0, 1],
-            "finding 0 one 8\n",
-        ),
-        (
-            SEAM,
-            [first, first, last].as_slice(),
-            [3, 0, 0, 0, 0, 2, 1, 0, 1, 0, 1],
-            "finding 0 seam 6\n",
-        ),
-        (
-            b"rule head proto any has \"abcd\"",
-            [first].as_slice(),
-            [1, 0, 0, 0, 0, 1, 0, 0, 0, 1, 0],
-            "",
-        ),
-        (
-            SEAM,
-            [
-                piece(2, 65512, false, b"abc"),
-                piece(3, 65512, false, b"abcd"),
-            ]
-            .as_slice(),
-            [2, 0, 1, 0, 0, 1, 0, 0, 0, 1, 0],
-            "",
-        ),
-        (
-            SEAM,
-            [
-                last,
-                piece(1, 16, true, b"abcdefgh"),
-                piece(1, 24, false, b"x"),
-            ]
-            .as_slice(),
-            [3, 0, 0, 0, 0, 1, 2, 0, 0, 1, 0],
-            "",
-        ),
-        (
-            SEAM,
-            [piece(1, 0, true, b"abcdefghijkl")].as_slice(),
-            [1, 0, 1, 0, 0, 0, 0, 0, 0, 0, 0],
-            "",
-        ),
-    ] {
-        let capture = fragments(alloc, list)?;
-        let got = inspected(alloc, &COMMAND, rules, &capture, 0)?;
-        assert_eq!(rt; got.status, 0);
-        assert_eq!(rt;
-            got.out.as_slice(),
-            report(alloc, counts, findings)?.as_slice()
-        );
-    }
+    let found = "finding 0 seam 6\n";
+    let both = gives(
+        alloc,
+        SEAM,
+        &[last, first],
+        [2, 0, 0, 0, 0, 2, 0, 0, 1, 0, 1],
+        found,
+    )?;
+    assert!(rt; both, "the last fragment first");
+    let rules = b"rule one proto icmp has \"ijkl\"\nrule two proto icmp has \"XXXX\"";
+    let list = [
+        piece(1, 0, true, b"abcdefghijklmnop"),
+        piece(1, 8, true, b"XXXXXXXXYYYYYYYY"),
+        piece(1, 16, false, b"qrst"),
+    ];
+    let overlap = gives(
+        alloc,
+        rules,
+        &list,
+        [3, 0, 0, 0, 0, 2, 1, 0, 1, 0, 1],
+        "finding 0 one 8\n",
+    )?;
+    assert!(rt; overlap, "the second fragment overlaps the first");
+    let twice = gives(
+        alloc,
+        SEAM,
+        &[first, first, last],
+        [3, 0, 0, 0, 0, 2, 1, 0, 1, 0, 1],
+        found,
+    )?;
+    assert!(rt; twice, "one fragment twice");
+    let head = b"rule head proto any has \"abcd\"";
+    let open = gives(alloc, head, &[first], [1, 0, 0, 0, 0, 1, 0, 0, 0, 1, 0], "")?;
+    assert!(rt; open, "the last fragment is missing");
+    let list = [
+        piece(2, 65512, false, b"abc"),
+        piece(3, 65512, false, b"abcd"),
+    ];
+    let far = gives(alloc, SEAM, &list, [2, 0, 1, 0, 0, 1, 0, 0, 0, 1, 0], "")?;
+    assert!(rt; far, "the greatest end, and one beyond it");
+    let list = [
+        last,
+        piece(1, 16, true, b"abcdefgh"),
+        piece(1, 24, false, b"x"),
+    ];
+    let behind = gives(alloc, SEAM, &list, [3, 0, 0, 0, 0, 1, 2, 0, 0, 1, 0], "")?;
+    assert!(rt; behind, "fragments behind the last one");
+    let list = [piece(1, 0, true, b"abcdefghijkl")];
+    let ragged = gives(alloc, SEAM, &list, [1, 0, 1, 0, 0, 0, 0, 0, 0, 0, 0], "")?;
+    assert!(rt; ragged, "a length that is no multiple of 8");
     Ok(())
 }
 
