@@ -61,12 +61,17 @@ module _ (w : Work) where
   -- the records that a worker may commit: a whole frame or a fragment is taken, a whole frame or a group is matched,
   -- nothing was in the queue, nothing was in the pool, the next tasks are given
   pub data IsAllowed (ds : List Done) : Type 0 where
-    take_whole : (i : ℕ) → IsWhole w i → ds ≡ outside (Take 0) (Value i) ∷ in_child (Enqueue 0 (task_item i)) Nothing ∷ [] → IsAllowed ds
-    take_fragment : (h i : ℕ) (old : Option ℕ) → IsMember w h i → ds ≡ outside (Take 0) (Value i) ∷ added h i old → IsAllowed ds
-    match_whole : (i : ℕ) (more : List Done) → IsWhole w i → Appends (w.task_values i) more → ds ≡ outside (Dequeue 0) (Value (task_item i)) ∷ more → IsAllowed ds
+    take_whole : (i : ℕ) → IsWhole w i
+        → ds ≡ outside (Take 0) (Value i) ∷ in_child (Enqueue 0 (task_item i)) Nothing ∷ [] → IsAllowed ds
+    take_fragment : (h i : ℕ) (old : Option ℕ) → IsMember w h i
+        → ds ≡ outside (Take 0) (Value i) ∷ added h i old → IsAllowed ds
+    match_whole : (i : ℕ) (more : List Done) → IsWhole w i → Appends (w.task_values i) more
+        → ds ≡ outside (Dequeue 0) (Value (task_item i)) ∷ more → IsAllowed ds
     match_group : (h x : ℕ) (before : List ℕ) (more : List Done) → h < w.groups → Appends (w.group_values h) more
-        → ds ≡ outside (Dequeue 0) (Value (group_item h)) ∷ outside (MapGet 0 h) (Value x) ∷ outside (MapRemove 0 h) Nothing ∷ (walk (head_of x) before ++ more) → IsAllowed ds
+        → ds ≡ outside (Dequeue 0) (Value (group_item h)) ∷ outside (MapGet 0 h) (Value x) ∷ outside (MapRemove 0 h) Nothing ∷ (walk (head_of x) before ++ more)
+        → IsAllowed ds
     nothing_queued : ds ≡ outside (Dequeue 0) Absent ∷ [] → IsAllowed ds
     nothing_pooled : ds ≡ outside (Take 0) Absent ∷ [] → IsAllowed ds
     fill : (f : ℕ) → 4096 * (f + 1) < length w.tasks
-        → ds ≡ outside (QueueLen 0) (Value 0) ∷ outside (CellGet 0) (Value f) ∷ outside (CellPut 0 (f + 1)) Nothing ∷ gives (next_batch f) → IsAllowed ds
+        → ds ≡ outside (QueueLen 0) (Value 0) ∷ outside (CellGet 0) (Value f) ∷ outside (CellPut 0 (f + 1)) Nothing ∷ gives (next_batch f)
+        → IsAllowed ds

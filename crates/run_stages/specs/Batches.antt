@@ -39,4 +39,5 @@ batch_records n =
 
 -- the records of 4,097 frames, and of up to 8,192, are a run of allowed records that ends in a finished lawful state
 abbrev pub BatchesRun : Type 0
-BatchesRun = (n : ℕ) → 4096 < n → n ≤ 8192 → IsSoundWork (frames n) × ((end : State) × IsRunOfWork (frames n) 65536 (batch_records n) end × IsLawful (frames n) end × IsFinished (frames n) end)
+BatchesRun = (n : ℕ) → 4096 < n → n ≤ 8192 → IsSoundWork (frames n)
+    × ((end : State) × IsRunOfWork (frames n) 65536 (batch_records n) end × IsLawful (frames n) end × IsFinished (frames n) end)

@@ -15,25 +15,30 @@ OpeningIsLawful = (w : Work) (findings : ℕ) → IsLawful w (opening w findings
 
 -- an allowed record that runs from a lawful state leaves a lawful state
 abbrev pub AllowedKeepsLawful : Type 0
-AllowedKeepsLawful = (w : Work) → IsSoundWork w → (ds : List Done) → IsAllowed w ds → (s t : State) → IsLawful w s → Runs s ds t → IsLawful w t
+AllowedKeepsLawful = (w : Work) → IsSoundWork w → (ds : List Done) → IsAllowed w ds → (s t : State)
+    → IsLawful w s → Runs s ds t → IsLawful w t
 
 -- so a run of work ends in a lawful state
 abbrev pub RunsEndLawful : Type 0
-RunsEndLawful = (w : Work) → IsSoundWork w → (findings : ℕ) (records : List (Entry Done)) (end : State) → IsRunOfWork w findings records end → IsLawful w end
+RunsEndLawful = (w : Work) → IsSoundWork w → (findings : ℕ) (records : List (Entry Done)) (end : State)
+    → IsRunOfWork w findings records end → IsLawful w end
 
 -- a finished lawful state has in its log the values of all datagrams' findings, in some order
 abbrev pub FinishedFindsAll : Type 0
-FinishedFindsAll = (w : Work) (s : State) → IsLawful w s → IsFinished w s → (items : List ℕ) → AreAllDatagrams w items → IsPermutation (values_of w items) (s.logs 0).items
+FinishedFindsAll = (w : Work) (s : State) → IsLawful w s → IsFinished w s → (items : List ℕ)
+    → AreAllDatagrams w items → IsPermutation (values_of w items) (s.logs 0).items
 
 -- and in its maps the incomplete groups alone: map 0 has exactly their numbers as keys, and map 1 links their tasks alone
 abbrev pub FinishedKeepsIncomplete : Type 0
 FinishedKeepsIncomplete = (w : Work) → IsSoundWork w → (s : State) → IsLawful w s → IsFinished w s
-    → ((h x : ℕ) → s.maps 0 h ≡ Some x → IsIncomplete w h) × ((h : ℕ) → IsIncomplete w h → IsSome (s.maps 0 h)) × ((i j : ℕ) → s.maps 1 i ≡ Some j → (h : ℕ) × IsMember w h i × IsIncomplete w h)
+    → ((h x : ℕ) → s.maps 0 h ≡ Some x → IsIncomplete w h) × ((h : ℕ) → IsIncomplete w h → IsSome (s.maps 0 h))
+    × ((i j : ℕ) → s.maps 1 i ≡ Some j → (h : ℕ) × IsMember w h i × IsIncomplete w h)
 
 -- a run takes each given task from the pool once at most, and no more items from the queue than tasks from the pool;
 -- pool and queue together never have more items than the queue may have
 abbrev pub RunsAreBounded : Type 0
-RunsAreBounded = (w : Work) → IsSoundWork w → (findings : ℕ) (records : List (Entry Done)) (end : State) → IsRunOfWork w findings records end
+RunsAreBounded = (w : Work) → IsSoundWork w → (findings : ℕ) (records : List (Entry Done)) (end : State)
+    → IsRunOfWork w findings records end
     → (all_tasks_taken records + (end.pools 0).held ≡ given_count w (end.cells 0))
     × (all_items_taken records + length (end.queues 0).items ≤ all_tasks_taken records)
     × (all_tasks_taken records ≤ length w.tasks)

@@ -52,11 +52,15 @@ module _ (w : Work) where
       pub once : (i : ℕ) → pool.count i ≤ 1
       pub held : pool.held ≡ total_below pool.count (length w.tasks)
       -- each whole task that was given is in the pool, or in the queue, or matched
-      pub whole : (i : ℕ) → IsWhole w i → i < given_count w f → pool.count i + times (task_item i) queue.items + times (task_item i) matched ≡ 1
-      pub only_whole : (i : ℕ) → 0 < times (task_item i) queue.items + times (task_item i) matched → IsWhole w i × (i < given_count w f)
+      pub whole : (i : ℕ) → IsWhole w i → i < given_count w f
+          → pool.count i + times (task_item i) queue.items + times (task_item i) matched ≡ 1
+      pub only_whole : (i : ℕ) → 0 < times (task_item i) queue.items + times (task_item i) matched → IsWhole w i
+          × (i < given_count w f)
       -- each complete group whose tasks were all added is in the queue, or matched
-      pub group : (h : ℕ) → IsComplete w h → AllAdded h → times (group_item h) queue.items + times (group_item h) matched ≡ 1
-      pub only_group : (h : ℕ) → 0 < times (group_item h) queue.items + times (group_item h) matched → IsComplete w h × AllAdded h
+      pub group : (h : ℕ) → IsComplete w h → AllAdded h
+          → times (group_item h) queue.items + times (group_item h) matched ≡ 1
+      pub only_group : (h : ℕ) → 0 < times (group_item h) queue.items + times (group_item h) matched
+          → IsComplete w h × AllAdded h
       -- the log has the values of what was matched, in the order in which it was matched
       pub found : log ≡ values_of w matched
       -- a group that wasn't matched has its added tasks in its chain, each once, and no chain has others

@@ -9,7 +9,7 @@ use Rattle.serial_terms.specs.declared.call.Call.TheVariants.{MapGet, MapPut, Ma
 use Rattle.serial_terms.specs.declared.call.Reply.{Reply}
 use Rattle.serial_terms.specs.declared.call.Reply.TheVariants.{Nothing, Absent, Value, Flag}
 use Rattle.serial_terms.specs.Counts.{with_at}
-use Rattle.serial_terms.specs.Laws.{RenamingKeepsRuns}
+use Rattle.serial_terms.specs.Laws.{RenamingKeepsRuns, OwnNamesAreKeys}
 use Rattle.serial_terms.specs.Renaming.{with_key, IsNameOfKey, IsOneToOne, value_at, by_keys, NamedDone, named, AreNamesOfKeys, by_key, by_name}
 use Rattle.serial_terms.specs.Histories.{Runs}
 use Rattle.serial_terms.specs.Serial.{State, Allows, after, found, put_map, by_value, after_take, after_give, step}
@@ -130,3 +130,24 @@ module _ (name : ℕ → ℕ → Option ℕ) (one : IsOneToOne name) where
 
 pub renamed : RenamingKeepsRuns
 renamed name one ds a s = (λ t r. runs_keyed name one ds a s t r, λ u r. runs_named name one ds a s u r)
+
+own_call : (name : ℕ → ℕ → Option ℕ) → ((m k n : ℕ) → name m k ≡ Some n → n ≡ k) → (n : ℕ) (c : Call) → IsNameOfKey name n c → with_key n c ≡ c
+own_call name own n (MapGet m k) a = ap (λ (z : ℕ). MapGet m z) (own m k n a)
+own_call name own n (MapPut m k v) a = ap (λ (z : ℕ). MapPut m z v) (own m k n a)
+own_call name own n (MapRemove m k) a = ap (λ (z : ℕ). MapRemove m z) (own m k n a)
+own_call name own n (MapPutIfAbsent m k v) a = ap (λ (z : ℕ). MapPutIfAbsent m z v) (own m k n a)
+own_call name own n (Enqueue q v) a = refl
+own_call name own n (Dequeue q) a = refl
+own_call name own n (QueueLen q) a = refl
+own_call name own n (Take q) a = refl
+own_call name own n (Give q v) a = refl
+own_call name own n (Append l v) a = refl
+own_call name own n (AppendPlaced l v) a = refl
+own_call name own n (LogRead l i) a = refl
+own_call name own n (LogLen l) a = refl
+own_call name own n (CellGet c) a = refl
+own_call name own n (CellPut c v) a = refl
+
+pub own_names : OwnNamesAreKeys
+own_names name own [] a = refl
+own_names name own (d ∷ ds) a = let c = own_call name own d.name d.done.call a.0 in let r = own_names name own ds a.1 in λ i. record { call = c i; reply = d.done.reply; child = d.done.child } ∷ r i

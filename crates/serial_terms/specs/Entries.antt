@@ -79,7 +79,8 @@ module _ {D : Type 0} where
   -- each book has records of its own caller alone, in order, and no two books have one caller
   abbrev pub AreBooks : List (Book D) → Type 0
   AreBooks [] = Unit {0}
-  AreBooks (b ∷ bs) = Each (λ e. e.caller ≡ b.caller) b.records × IsInOrder b.records × Each (λ c. b.caller ≢ c.caller) bs × AreBooks bs
+  AreBooks (b ∷ bs) = Each (λ e. e.caller ≡ b.caller) b.records × IsInOrder b.records
+      × Each (λ c. b.caller ≢ c.caller) bs × AreBooks bs
 
   -- the list has the records of these books and no others, in the order of a history
   pub record IsHistoryOf (books : List (Book D)) (history : List (Entry D)) : Type 0 where

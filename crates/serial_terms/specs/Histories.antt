@@ -57,8 +57,10 @@ part_of queues s p = if nat_lt p queues then s.queues p else s.logs (p - queues)
 -- after the calls the refused part has the values it was said to have and those to be added, more than its capacity
 abbrev pub IsRefusedBy : ℕ → State → Option Refusal → Type 0
 IsRefusedBy queues s None = Unit {0}
-IsRefusedBy queues s (Some r) = (length (part_of queues s r.part).items ≡ r.values + r.adding) × ((part_of queues s r.part).capacity < r.values + r.adding)
+IsRefusedBy queues s (Some r) = (length (part_of queues s r.part).items ≡ r.values + r.adding)
+    × ((part_of queues s r.part).capacity < r.values + r.adding)
 
 -- the sight is consistent with the history: its calls run, with these replies, from the state at its place
 abbrev pub IsConsistent : ℕ → State → List (Entry Done) → Sight → Type 0
-IsConsistent queues start history v = (s : State) × IsStateAt start history v.place s × ((t : State) × Runs s v.dones t × IsRefusedBy queues t v.refused)
+IsConsistent queues start history v = (s : State) × IsStateAt start history v.place s
+    × ((t : State) × Runs s v.dones t × IsRefusedBy queues t v.refused)

@@ -1,7 +1,7 @@
 //! Laws of the serial structures and of histories. Each function does nothing; what it ensures is the law.
 
 ghost use Rattle.serial_terms.specs.Worked.{WorkedHistories};
-ghost use Rattle.serial_terms.specs.Laws.{RunsInParts, RunsToOneState, PartsCommute, ReadingLeavesState, RepliesHaveKinds, SizesStay, PoolsAreCounts, StatesAtPlaces, RenamingKeepsRuns, OrderIsUnique, MergedIsInOrder, MergedIsLegal, MergedIsSeen, HistoryKeepsBooks};
+ghost use Rattle.serial_terms.specs.Laws.{RunsInParts, RunsToOneState, PartsCommute, ReadingLeavesState, RepliesHaveKinds, SizesStay, PoolsAreCounts, StatesAtPlaces, RenamingKeepsRuns, OwnNamesAreKeys, OrderIsUnique, MergedIsInOrder, MergedIsLegal, MergedIsSeen, HistoryKeepsBooks};
 
 /// Calls one after another run as the first ones and then the others.
 pub fn runs_in_parts()
@@ -47,6 +47,11 @@ pub fn states_at_places()
 /// Map keys may be renamed one to one: the calls run as before.
 pub fn renaming_keeps_runs()
     ensures { RenamingKeepsRuns }
+{}
+
+/// Where each key's name is the key itself, nothing is renamed.
+pub fn own_names_are_keys()
+    ensures { OwnNamesAreKeys }
 {}
 
 /// Two lists of records in the order of a history that have the same members are one.
