@@ -1,6 +1,6 @@
 -- The work of tasks: what a run has of each task, of each group, and which groups are complete.
 use Rattle.std.proofs.Common.{◌≡◌, ℕ, zero, suc, ◌+◌, ◌<◌, Bool, true, false, cond, List, [], ◌∷◌, Option, None, Some, ⊎_elim, refl, sym, ◌∙◌, ap, arith, length, get_or, eq-eqb}
-use Rattle.std.specs.Prelude.{Contains, filter, not, ◌&&◌, ◌==◌, sum_by, count_by, if◌then◌else◌, ◌↔◌}
+use Rattle.std.specs.Prelude.{slice_get, Contains, filter, not, ◌&&◌, ◌==◌, sum_by, count_by, if◌then◌else◌, ◌↔◌}
 use Rattle.std.specs.List.{range_with_len}
 use Rattle.std.specs.Option.{option_map_or}
 use Rattle.std.proofs.lemmas.Bool.Decides.{nat_tests}
@@ -94,6 +94,9 @@ module _ (rules : List Rule) (bytes : List ℕ) (tasks : List Task) (groups : Li
   pub facts_are : (i : ℕ) → task w i ≡ facts_of (nth i)
   unfolding work_of
   facts_are i = get_or-map facts_of tasks i no_task
+
+  pub facts_at : (i : ℕ) (t : Task) → slice_get tasks i ≡ Some t → task w i ≡ facts_of t
+  facts_at i t at = facts_are i ∙ ap facts_of (there_get tasks i t no_task at).1
 
   pub nth_is : (i : ℕ) (d : Task) → i < length tasks → nth i ≡ get_or tasks i d
   nth_is i d l = get_or_default tasks i no_task d l

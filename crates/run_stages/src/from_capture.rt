@@ -1,15 +1,31 @@
 //! Laws of the work that a capture gives. Each function does nothing; what it ensures is the law.
 
-ghost use Rattle.run_stages.specs.FromCapture.{PlansAreWork, ValuesAreFindings, FinishedFindsCapture, IncompleteAreCounted, FinishedCountsIncomplete, WholeIsDatagram, GroupIsDatagram};
+ghost use Rattle.run_stages.specs.FromCapture.{TasksHaveFacts, PlansAreWork, WholeIsDatagram, GroupIsDatagram, ValuesAreFindings, FinishedFindsCapture, IncompleteAreCounted, FinishedCountsIncomplete};
 
 use capture_terms::{group_law, task_law};
 
-/// The tasks and groups of a capture's plan are a plan of a run.
+/// What a run has of each task is what the task has.
+pub fn tasks_have_facts()
+    ensures { TasksHaveFacts }
+{}
+
+/// The work of a capture's plan is sound.
 pub fn plans_are_work()
     ensures { PlansAreWork }
 {
     group_law();
 }
+
+/// A whole datagram's task is asked for by its number, and has the values of the findings in it.
+pub fn whole_is_datagram()
+    ensures { WholeIsDatagram }
+{}
+
+/// A complete group's datagram is asked for by the numbers of the group's tasks, in any order, and the
+/// group has the values of the findings in it.
+pub fn group_is_datagram()
+    ensures { GroupIsDatagram }
+{}
 
 /// The values of all datagrams of a run are the findings in the datagrams of the tasks, in some order.
 pub fn values_are_findings()
@@ -36,14 +52,3 @@ pub fn finished_counts_incomplete()
 {
     group_law();
 }
-
-/// A whole datagram's task is asked for by its number, and has the values of the findings in it.
-pub fn whole_is_datagram()
-    ensures { WholeIsDatagram }
-{}
-
-/// A complete group's datagram is asked for by the numbers of the group's tasks, in any order, and the
-/// group has the values of the findings in it.
-pub fn group_is_datagram()
-    ensures { GroupIsDatagram }
-{}
