@@ -1,7 +1,8 @@
 -- What word a list of entries has at a cell.
-use Rattle.std.proofs.Common.{◌≡◌, ℕ, zero, suc, ◌<◌, ◌≢◌, [], ◌∷◌, length, get_or, Some, None, refl, arith}
+use Rattle.std.proofs.Common.{◌≡◌, ℕ, zero, suc, ◌<◌, ◌≢◌, [], ◌∷◌, ◌++◌, length, get_or, Some, None, refl, arith}
 use Rattle.std.proofs.lemmas.Bool.Decides.{nat_tests}
-use Rattle.attempt_lists.specs.Cells.{Entries, word_at, cell_at}
+use Rattle.std.proofs.lemmas.Grind.{common_steps}
+use Rattle.attempt_lists.specs.Cells.{Entries, word_at, cell_at, NoCellTwice}
 
 -- no entry before place i is of the cell
 abbrev pub NoneBefore : Entries → ℕ → ℕ → Type 0
@@ -27,3 +28,7 @@ pub none_from_word : (es : Entries) (cell : ℕ) → word_at es cell ≡ None �
 none_from_word [] cell absent j lt same = absurd (omega arith)
 none_from_word (e ∷ es) cell absent zero lt same = grind (arith, nat_tests, absent, same)
 none_from_word (e ∷ es) cell absent (suc j) lt same = none_from_word es cell (grind (arith, nat_tests, absent)) j (omega arith) same
+
+-- the last entry's cell stands nowhere before it
+pub last_gone : (es : Entries) (e : ℕ × ℕ) → NoCellTwice (es ++ e ∷ []) → word_at es e.0 ≡ None
+last_gone es e once = word_absent es e.0 (λ j lt same. once j (length es) lt (grind (arith, common_steps)) (grind (arith, common_steps, same)))

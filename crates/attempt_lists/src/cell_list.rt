@@ -1,5 +1,5 @@
 //! Cells in the order in which they came, with an index by cell.
-ghost use Rattle.std.specs.Prelude.{◌≡◌, ℕ, ◌+◌, ◌<◌, ◌≤◌, [], ◌∷◌, ◌++◌, length, take, Some, OnOk, OnErr, IfSome, MatchOption};
+ghost use Rattle.std.specs.Prelude.{◌≡◌, ℕ, ◌+◌, ◌<◌, ◌≤◌, [], ◌∷◌, ◌++◌, length, take, Some, IfSome, OnOk, OnErr, IfSome, MatchOption};
 ghost use Rattle.attempt_lists.specs.Cells.{word_at, word_of, cell_at, NoCellTwice, Listed};
 
 use std::alloc::{AllocError, Global};
@@ -130,6 +130,7 @@ impl CellList {
     /// Takes the last cell out. Takes no memory.
     pub fn pop(&mut self) -> Option<(u32, u64)>
         ensures entries { MatchOption result ((self.old.entries ≡ []) × (self.new.entries ≡ [])) (λ e. self.old.entries ≡ self.new.entries ++ e ∷ []) }
+        ensures gone { IfSome result (λ e. word_at self.new.entries e.0 ≡ None) }
         ensures reserved { self.new.reserved ≡ self.old.reserved }
     {
         let last = self.entries.pop()?;

@@ -1,5 +1,5 @@
 //! Cells in ascending order, each with a word.
-ghost use Rattle.std.specs.Prelude.{◌≡◌, ℕ, ◌+◌, ◌<◌, ◌≤◌, [], ◌∷◌, ◌++◌, length, IsSome, IsNone, is_some, IsOk, IsErr, is_ok, if◌then◌else◌, OnOk, OnErr, IfOk, IfErr};
+ghost use Rattle.std.specs.Prelude.{◌≡◌, ℕ, ◌+◌, ◌<◌, ◌≤◌, [], ◌∷◌, ◌++◌, length, nat_eq, Some, IsSome, IsNone, is_some, IsOk, IsErr, is_ok, if◌then◌else◌, OnOk, OnErr, IfOk, IfErr};
 ghost use Rattle.attempt_lists.specs.Cells.{word_at, put, IsAscending, Listed, IsPlaceOf, IsGapFor};
 
 use std::alloc::{AllocError, Global};
@@ -80,6 +80,8 @@ impl CellMap {
     /// Gives a cell its word. The reserved places stay reserved. Takes no memory where the cell has a word.
     pub fn put(&mut self, cell: u32, word: u64) -> Result<(), AllocError>
         ensures ok { OnOk result (self.new ≡ record self.old { entries = put self.old.entries cell word }) }
+        ensures words { OnOk result ((q : ℕ) → word_at self.new.entries q ≡ (if nat_eq cell q then Some word else word_at self.old.entries q)) }
+        ensures len { length self.new.entries ≤ length self.old.entries + 1 }
         ensures err { OnErr result (self.new ≡ self.old) }
         ensures overwrite_succeeds { IsSome (word_at self.old.entries cell) → IsOk result }
     {
@@ -95,6 +97,7 @@ impl CellMap {
     pub fn put_reserved(&mut self, cell: u32, word: u64)
         requires room { IsNone (word_at self.old.entries cell) → 0 < self.old.reserved }
         ensures entries { self.new.entries ≡ put self.old.entries cell word }
+        ensures words { (q : ℕ) → word_at self.new.entries q ≡ (if nat_eq cell q then Some word else word_at self.old.entries q) }
         ensures len { length self.new.entries ≡ length self.old.entries + (if is_some (word_at self.old.entries cell) then 0 else 1) }
         ensures reserved { self.new.reserved + (if is_some (word_at self.old.entries cell) then 0 else 1) ≡ self.old.reserved }
     {
@@ -133,6 +136,7 @@ impl CellMap {
         requires absent { IfErr place (IsGapFor self.old.entries cell) }
         requires room { IsErr place → 0 < self.old.reserved }
         ensures entries { self.new.entries ≡ put self.old.entries cell word }
+        ensures words { (q : ℕ) → word_at self.new.entries q ≡ (if nat_eq cell q then Some word else word_at self.old.entries q) }
         ensures len { length self.new.entries ≡ length self.old.entries + (if is_ok place then 0 else 1) }
         ensures reserved { self.new.reserved + (if is_ok place then 0 else 1) ≡ self.old.reserved }
     {

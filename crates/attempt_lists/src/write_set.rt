@@ -1,5 +1,5 @@
 //! What an attempt will write.
-ghost use Rattle.std.specs.Prelude.{◌≡◌, ℕ, ◌+◌, ◌<◌, ◌≤◌, [], length, IsSome, IsNone, is_some, IsOk, if◌then◌else◌, IsTrue, ◌↔◌, OnOk, OnErr};
+ghost use Rattle.std.specs.Prelude.{◌≡◌, ℕ, ◌+◌, ◌<◌, ◌≤◌, [], length, nat_eq, Some, IsSome, IsNone, is_some, IsOk, if◌then◌else◌, IsTrue, ◌↔◌, OnOk, OnErr};
 ghost use Rattle.attempt_lists.specs.Cells.{word_at, put, laid_over, IsAscending, Listed};
 ghost use Rattle.attempt_lists.specs.Levels.{Levels, written};
 
@@ -96,6 +96,8 @@ impl WriteSet {
     pub fn put(&mut self, cell: u32, word: u64) -> Result<(), AllocError>
         requires no_child { self.old.child ≡ [] }
         ensures ok { OnOk result (self.new ≡ record self.old { parent = put self.old.parent cell word }) }
+        ensures words { OnOk result ((q : ℕ) → word_at self.new.parent q ≡ (if nat_eq cell q then Some word else word_at self.old.parent q)) }
+        ensures len { length self.new.parent ≤ length self.old.parent + 1 }
         ensures err { OnErr result (self.new ≡ self.old) }
         ensures overwrite_succeeds { IsSome (word_at self.old.parent cell) → IsOk result }
     {
@@ -107,6 +109,7 @@ impl WriteSet {
         requires no_child { self.old.child ≡ [] }
         requires room { IsNone (word_at self.old.parent cell) → 0 < self.old.reserved }
         ensures parent { self.new.parent ≡ put self.old.parent cell word }
+        ensures words { (q : ℕ) → word_at self.new.parent q ≡ (if nat_eq cell q then Some word else word_at self.old.parent q) }
         ensures child { self.new.child ≡ [] }
         ensures reserved { self.new.reserved + (if is_some (word_at self.old.parent cell) then 0 else 1) ≡ self.old.reserved }
     {
@@ -119,6 +122,7 @@ impl WriteSet {
     /// Writes a cell at the child's level, and reserves the place that a merge needs. The other reserved places stay.
     pub fn put_in_child(&mut self, cell: u32, word: u64) -> Result<(), AllocError>
         ensures ok { OnOk result (self.new ≡ record self.old { child = put self.old.child cell word }) }
+        ensures words { OnOk result ((q : ℕ) → word_at self.new.child q ≡ (if nat_eq cell q then Some word else word_at self.old.child q)) }
         ensures err { OnErr result (self.new ≡ self.old) }
         ensures overwrite_succeeds { IsSome (word_at self.old.child cell) → IsOk result }
     {

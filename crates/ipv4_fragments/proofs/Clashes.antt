@@ -1,6 +1,6 @@
 -- What a group's ranges say of a further fragment.
-use Rattle.std.proofs.Common.{◌≡◌, ◌⊎◌, ℕ, zero, suc, ◌+◌, ◌<◌, ◌≤◌, Bool, true, false, List, [], ◌∷◌, ◌++◌, Option, None, Some, refl, sym, ◌∙◌, ap, inl, inr, subst, arith, length, get_or}
-use Rattle.std.specs.Prelude.{All, IsSome, is_some, nat_lt, nat_le, ◌&&◌, ◌||◌, ◌==◌, min, max, cond}
+use Rattle.std.proofs.Common.{◌≡◌, ◌⊎◌, ℕ, ◌<◌, ◌≤◌, Bool, true, false, List, [], ◌∷◌, ◌++◌, Option, None, Some, refl, sym, ◌∙◌, ap, inl, inr, arith, get_or}
+use Rattle.std.specs.Prelude.{All, IsSome, is_some, nat_lt, ◌&&◌, ◌||◌, ◌==◌, min, max}
 use Rattle.std.specs.List.{list_any}
 use Rattle.std.specs.Option.{option_map_or}
 use Rattle.std.proofs.lemmas.List.Folds.{list_any_none, list_any-append}

@@ -1,7 +1,6 @@
 -- One task more is copied, and what was copied stands.
-use Rattle.std.proofs.Common.{◌≡◌, ℕ, ◌+◌, ◌<◌, ◌≤◌, Bool, true, false, List, Option, None, Some, refl, sym, ◌∙◌, ap, subst, arith, length, get_or, take, length-take}
+use Rattle.std.proofs.Common.{◌≡◌, ℕ, ◌+◌, ◌<◌, ◌≤◌, Bool, true, false, List, Option, None, Some, refl, sym, ◌∙◌, subst, arith, length, get_or, take, length-take}
 use Rattle.std.specs.Prelude.{All, IsSomeAnd, Contains, slice_get, max}
-use Rattle.std.specs.Option.{option_map_or}
 use Rattle.std.proofs.lemmas.List.{get_or_default, get_or-take}
 use Rattle.std.proofs.lemmas.List.Elements.{All-more}
 use Rattle.capture_terms.specs.Datagram.{holds, end_of_task}

@@ -1,14 +1,13 @@
 -- What stands where the tasks of a datagram were copied.
-use Rattle.std.proofs.Common.{◌≡◌, ◌⊎◌, ℕ, zero, suc, ◌+◌, ◌-◌, ◌<◌, ◌≤◌, Bool, true, false, List, [], ◌∷◌, Option, None, Some, refl, sym, ◌∙◌, ap, subst, inl, inr, arith, length, get_or, map}
+use Rattle.std.proofs.Common.{◌≡◌, ℕ, zero, suc, ◌+◌, ◌<◌, ◌≤◌, Bool, true, false, List, [], ◌∷◌, Option, Some, refl, sym, ◌∙◌, ap, subst, inl, inr, arith, length, get_or}
 use Rattle.std.specs.Prelude.{All, AllPairs, Contains, IsSomeAnd, slice_get, slice_index, filter, count_by, ◌↔◌, cond}
-use Rattle.std.specs.List.{range_with_len}
 use Rattle.std.proofs.lemmas.Bool.{cases_eq, cases_lt}
 use Rattle.std.proofs.lemmas.Bool.Decides.{nat_tests}
 use Rattle.std.proofs.lemmas.List.{get_or_default}
 use Rattle.std.proofs.lemmas.List.Sums.{sum_by-cons}
 use Rattle.std.proofs.lemmas.List.FromFn.{length-map-range_with_len, get_or-map-range_with_len}
 use Rattle.std.proofs.lemmas.Grind.{same_number_lists}
-use Rattle.capture_terms.specs.Datagram.{holds, end_of_task, AreApart, ArePacked, size_of, byte_at, payload_of, IsSound, IsDatagramAt, IsWholeAt, IsGroupAt, members, is_member}
+use Rattle.capture_terms.specs.Datagram.{holds, end_of_task, AreApart, ArePacked, size_of, byte_at, payload_of, IsSound, IsDatagramAt, IsWholeAt, IsGroupAt, is_member}
 use Rattle.capture_terms.specs.declared.plan.Task.{Task}
 use Rattle.ipv4_fragments.specs.Payload.{byte_of, Stands, Agree, AreThere, end_at}
 use Rattle.ipv4_fragments.proofs.Copies.{some_and}

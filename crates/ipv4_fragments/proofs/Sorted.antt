@@ -1,5 +1,5 @@
 -- One frame more.
-use Rattle.std.proofs.Common.{◌≡◌, ℕ, zero, suc, ◌+◌, List, [], ◌∷◌, ◌++◌, Option, None, Some, refl, sym, ◌∙◌, ap, arith, length, append_assoc, subst, take, take_all, ◌≤◌}
+use Rattle.std.proofs.Common.{◌≡◌, ℕ, suc, ◌+◌, List, [], ◌∷◌, ◌++◌, Option, refl, sym, ◌∙◌, ap, arith, length, append_assoc, subst, take, take_all, ◌≤◌}
 use Rattle.std.specs.Prelude.{option_to_list, map}
 use Rattle.std.proofs.lemmas.List.{append-nil}
 use Rattle.capture_terms.specs.declared.datagram.Class.{Class}

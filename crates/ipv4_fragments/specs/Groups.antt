@@ -1,5 +1,5 @@
 -- What the groups say of all kept fragments so far.
-use Rattle.std.specs.Prelude.{◌≡◌, ℕ, ◌<◌, Bool, List, length, filter, slice_index_or}
+use Rattle.std.specs.Prelude.{◌≡◌, ℕ, ◌<◌, List, length, filter, slice_index_or}
 use Rattle.capture_terms.specs.declared.datagram.Piece.{Piece}
 use Rattle.capture_terms.specs.declared.plan.Group.{Group}
 use Rattle.capture_terms.specs.Kept.{group_of, is_same_group}

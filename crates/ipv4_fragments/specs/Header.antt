@@ -1,5 +1,5 @@
 -- What a datagram's header has where it breaks no rule (RFC 791, section 3.1).
-use Rattle.std.specs.Prelude.{◌≡◌, ℕ, ◌+◌, ◌<◌, ◌≤◌, List, length}
+use Rattle.std.specs.Prelude.{ℕ, ◌+◌, ◌<◌, ◌≤◌, List, length}
 use Rattle.capture_terms.specs.Classes.{header_length, total_length}
 use Rattle.capture_terms.specs.Kept.{end_of}
 use Rattle.capture_terms.specs.declared.datagram.Piece.{Piece}

@@ -14,7 +14,8 @@ const TCP: u8 = 6;
 const UDP: u8 = 17;
 
 /// The rules that match a datagram of this header and payload, by number from 0 and in ascending
-/// order, each with the least place at which its first pattern stands in the payload.
+/// order, each with the least place at which its first pattern stands in the payload. The payload has
+/// at most 65,535 bytes, as the data of a datagram does. The one error is want of memory.
 pub fn findings_of(
     alloc: Global,
     rules: &Rules,

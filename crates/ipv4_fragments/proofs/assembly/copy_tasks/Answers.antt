@@ -1,6 +1,6 @@
-use Rattle.std.proofs.Common.{◌≡◌, arith, Some, get_or, sym, take_all, subst, List, ℕ, All, IsSomeAnd}
+use Rattle.std.proofs.Common.{◌≡◌, Some, get_or, sym, take_all, subst, List, ℕ, All, IsSomeAnd}
 use Rattle.std.specs.Prelude.{slice_get, All, IsSomeAnd}
-use Rattle.std.proofs.lemmas.Option.{slice_get-get_or, get_or_from_slice_get}
+use Rattle.std.proofs.lemmas.Option.{get_or_from_slice_get}
 use Rattle.ipv4_fragments.specs.Payload.{Stands}
 use Rattle.ipv4_fragments.proofs.Copies.{stands_more, some_and}
 use Rattle.ipv4_fragments.proofs.assembly.copy_tasks.Goals as goal

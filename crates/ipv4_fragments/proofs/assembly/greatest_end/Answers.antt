@@ -1,5 +1,5 @@
-use Rattle.std.proofs.Common.{◌≡◌, ◌≤◌, arith, Some, get_or, sym, take_all, subst, List, ℕ, ap, None, false}
-use Rattle.std.specs.Prelude.{slice_get, All, max}
+use Rattle.std.proofs.Common.{◌≡◌, ◌≤◌, arith, get_or, take_all, subst, List, ℕ, ap, None, false}
+use Rattle.std.specs.Prelude.{All, max}
 use Rattle.ipv4_fragments.specs.Payload.{end_at}
 use Rattle.ipv4_fragments.proofs.Copies.{ends_more, ends_least, some_and}
 use Rattle.std.proofs.lemmas.Option.{get_or_from_slice_get}

@@ -1,4 +1,4 @@
-use Rattle.std.proofs.Common.{◌≡◌, ℕ, ◌≤◌, List, sym, subst, length}
+use Rattle.std.proofs.Common.{◌≤◌, List, sym, subst, length}
 use Rattle.std.specs.Prelude.{All, IsSomeAnd, slice_get}
 use Rattle.capture_terms.specs.declared.plan.Task.{Task}
 use Rattle.ipv4_fragments.specs.Payload.{AreThere, Agree, Stands, end_at}

@@ -1,4 +1,4 @@
-use Rattle.std.proofs.Common.{refl, arith, ap, length}
+use Rattle.std.proofs.Common.{refl, arith}
 use Rattle.ipv4_fragments.proofs.Sorted.{plan_from}
 use Rattle.ipv4_fragments.proofs.sorting.classify.Goals as goal
 

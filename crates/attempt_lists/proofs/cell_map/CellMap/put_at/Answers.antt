@@ -1,5 +1,6 @@
 use Rattle.std.proofs.Common.{ap}
 use Rattle.attempt_lists.specs.Cells.{Listed, IsPlaceOf, IsGapFor}
+use Rattle.attempt_lists.proofs.LaidOver.{word_at-put}
 use Rattle.attempt_lists.proofs.Places.{put_set, put_insert}
 use Rattle.attempt_lists.proofs.cell_map.CellMap.put_at.Goals as goal
 
@@ -16,3 +17,10 @@ returns-in-Ok-insert-clause-entries c =
     let shown = ap (λ (l : Listed). l.entries) c.self.view_is in
     let gap : IsGapFor c.self.inside.entries.items c.args.cell c.in-Err.place = rw shown (rw c.in-Err.is at c.requires.absent) in
     rw (← shown, c.in-Ok-insert.ensures.items) (put_insert _ _ c.args.word _ gap)
+
+-- so the cell has the word, and each other cell what it had
+pub returns-in-Ok-clause-words : goal.returns-in-Ok-clause-words
+returns-in-Ok-clause-words c = λ q. rw (returns-in-Ok-clause-entries c) (word_at-put c.args.self.now.entries c.args.cell c.args.word q)
+
+pub returns-in-Ok-insert-clause-words : goal.returns-in-Ok-insert-clause-words
+returns-in-Ok-insert-clause-words c = λ q. rw (returns-in-Ok-insert-clause-entries c) (word_at-put c.args.self.now.entries c.args.cell c.args.word q)

@@ -1,11 +1,10 @@
-use Rattle.std.proofs.Common.{◌≡◌, ℕ, List, ◌++◌, ◌∷◌, [], true, false, ◌<◌, length, sym, ap, refl, ◌∙◌, arith, subst, get_or}
+use Rattle.std.proofs.Common.{◌≡◌, [], false, sym, refl, ◌∙◌, subst, get_or}
 use Rattle.std.specs.List.{list_any, IsDistinct}
 use Rattle.capture_terms.specs.Kept.{is_same_group, group_of, cannot_both_stand}
-use Rattle.capture_terms.specs.declared.plan.Group.{Group}
 use Rattle.ipv4_fragments.specs.Groups.{of_group}
 use Rattle.ipv4_fragments.specs.Ranges.{Agrees}
 use Rattle.ipv4_fragments.specs.declared.ranges.Ranges.{Ranges}
-use Rattle.ipv4_fragments.proofs.KeptGroups.{any_in_group, follows_new, follows_kept, follows_aside, at_number, apart_keys, place_new, place_old, mine_there, number_old, number_new, new_unknown, old_known}
+use Rattle.ipv4_fragments.proofs.KeptGroups.{any_in_group, follows_new, follows_kept, follows_aside, at_number, apart_keys, place_old, mine_there, number_old, number_new, new_unknown, old_known}
 use Rattle.ipv4_fragments.proofs.groups.Groups.keep.Goals as goal
 use Rattle.ipv4_fragments.proofs.groups.Groups.keep.Goals.{In_ok-push, Then-clashes, In_ok-keep-2}
 
