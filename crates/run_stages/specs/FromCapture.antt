@@ -1,5 +1,5 @@
 -- The work that the tasks of a capture's plan give under rules, and what its run finds.
-use Rattle.std.specs.Prelude.{◌≡◌, ℕ, ◌<◌, false, List, [], ◌∷◌, length, slice_get, Some, map, AllPairs, IsPermutation, IsSome, is_some, count_by, ◌↔◌}
+use Rattle.std.specs.Prelude.{◌≡◌, ℕ, ◌+◌, ◌<◌, ◌≤◌, false, List, [], ◌∷◌, length, slice_get, Some, map, AllPairs, IsPermutation, IsSome, is_some, count_by, ◌↔◌}
 use Rattle.std.specs.List.{range_with_len}
 use Rattle.std.specs.Option.{option_map_or}
 use Rattle.capture_terms.specs.Capture.{contents_of}
@@ -11,9 +11,10 @@ use Rattle.capture_terms.specs.declared.plan.Plan.{Plan}
 use Rattle.capture_terms.specs.declared.plan.Task.{Task}
 use Rattle.rule_terms.specs.Rule.{Rule}
 use Rattle.inspection_terms.specs.Findings.{findings_in, all_findings, findings_of_capture}
+use Rattle.serial_terms.specs.declared.call.Reply.TheVariants.{Value}
 use Rattle.serial_terms.specs.Counts.{times}
-use Rattle.serial_terms.specs.Serial.{State}
-use Rattle.run_stages.specs.Work.{Work, TaskFacts, IsSoundWork, IsWhole, IsMember, IsComplete, task, values_of}
+use Rattle.serial_terms.specs.Serial.{State, first}
+use Rattle.run_stages.specs.Work.{Work, TaskFacts, IsSoundWork, IsWhole, IsMember, IsComplete, task, item_values, values_of}
 use Rattle.run_stages.specs.Stages.{IsLawful}
 use Rattle.run_stages.specs.Ends.{IsFinished, AreAllDatagrams, IsIncomplete}
 
@@ -69,6 +70,14 @@ GroupIsDatagram = (rules : List Rule) (bytes : List ℕ) (tasks : List Task) (gr
     → (datagram : List Task) × IsDatagramAt tasks numbers datagram
     × ((work_of rules bytes tasks groups).group_values h ≡ findings_in rules bytes datagram)
 
+-- where the frames of the tasks ascend, some list has all datagrams of the work, and their values are the findings in the
+-- datagrams of the tasks in order
+abbrev pub DatagramsAreListed : Type 0
+DatagramsAreListed = (rules : List Rule) (bytes : List ℕ) (tasks : List Task) (groups : List Group)
+    → AllPairs (λ s t. s.frame < t.frame) tasks
+    → (items : List ℕ) × AreAllDatagrams (work_of rules bytes tasks groups) items
+    × (values_of (work_of rules bytes tasks groups) items ≡ all_findings rules bytes tasks)
+
 -- where the frames of the tasks ascend, the values of all datagrams of the work are the findings in the datagrams of the
 -- tasks, in some order
 abbrev pub ValuesAreFindings : Type 0
@@ -83,6 +92,15 @@ abbrev pub FinishedFindsCapture : Type 0
 FinishedFindsCapture = (rules : List Rule) (bytes : List ℕ) (capture : Capture) (planned : Plan) → IsPlan bytes capture planned
     → (s : State) → IsLawful (work_of_plan rules bytes planned) s → IsFinished (work_of_plan rules bytes planned) s
     → IsPermutation (findings_of_capture rules bytes (contents_of capture)) (s.logs 0).items
+
+-- the log of a lawful state never has more values than there are findings in the capture, and has room among these for
+-- those of the queue's first item
+abbrev pub LogIsPartOfFindings : Type 0
+LogIsPartOfFindings = (rules : List Rule) (bytes : List ℕ) (capture : Capture) (planned : Plan) → IsPlan bytes capture planned
+    → (s : State) → IsLawful (work_of_plan rules bytes planned) s
+    → (length (s.logs 0).items ≤ length (findings_of_capture rules bytes (contents_of capture)))
+    × ((x : ℕ) → Value x ≡ first (s.queues 0).items
+    → length (s.logs 0).items + length (item_values (work_of_plan rules bytes planned) x) ≤ length (findings_of_capture rules bytes (contents_of capture)))
 
 -- the incomplete groups of the work are those that are counted: any list in which each stands once is as long
 abbrev pub IncompleteAreCounted : Type 0

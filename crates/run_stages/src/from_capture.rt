@@ -1,7 +1,8 @@
 //! Laws of the work that a capture gives. Each function does nothing; what it ensures is the law.
 
-ghost use Rattle.run_stages.specs.FromCapture.{TasksHaveFacts, PlansAreWork, WholeIsDatagram, GroupIsDatagram, ValuesAreFindings, FinishedFindsCapture, IncompleteAreCounted, FinishedCountsIncomplete};
+ghost use Rattle.run_stages.specs.FromCapture.{TasksHaveFacts, PlansAreWork, WholeIsDatagram, GroupIsDatagram, DatagramsAreListed, ValuesAreFindings, FinishedFindsCapture, LogIsPartOfFindings, IncompleteAreCounted, FinishedCountsIncomplete};
 
+use crate::laws::log_is_part_of_all;
 use capture_terms::{group_law, task_law};
 
 /// What a run has of each task is what the task has.
@@ -27,6 +28,11 @@ pub fn group_is_datagram()
     ensures { GroupIsDatagram }
 {}
 
+/// Some list has all datagrams of a run, and their values are the findings in order.
+pub fn datagrams_are_listed()
+    ensures { DatagramsAreListed }
+{}
+
 /// The values of all datagrams of a run are the findings in the datagrams of the tasks, in some order.
 pub fn values_are_findings()
     ensures { ValuesAreFindings }
@@ -37,6 +43,15 @@ pub fn values_are_findings()
 pub fn finished_finds_capture()
     ensures { FinishedFindsCapture }
 {
+    task_law();
+}
+
+/// The log of a lawful state never has more values than there are findings in the capture, and has room
+/// among these for those of the queue's first item.
+pub fn log_is_part_of_findings()
+    ensures { LogIsPartOfFindings }
+{
+    log_is_part_of_all();
     task_law();
 }
 
