@@ -24,7 +24,7 @@ use Rattle.serial_terms.proofs.Basics.{bool_cases, true_or_false}
 use Rattle.run_stages.specs.Work.{Work, TaskFacts, IsSoundWork, IsMember, IsComplete, task, end_of, group_bytes, is_some_of, total_below}
 use Rattle.run_stages.specs.Ends.{IsIncomplete}
 use Rattle.run_stages.specs.FromCapture.{facts_of, work_of}
-use Rattle.run_stages.proofs.Counting.{total_same, total_times}
+use Rattle.run_stages.proofs.Counting.{total_same, total_times, zero_or}
 
 -- ---- sums over a list, and over the numbers of its places
 
@@ -206,9 +206,6 @@ module _ (rules : List Rule) (bytes : List ℕ) (tasks : List Task) (groups : Li
       here : (h : ℕ) (b : Bool) → is_complete (members tasks h) ≡ b → one_if (not (is_complete (members tasks (0 + h)))) ≡ one_if (not b)
       here h b e = let z : 0 + h ≡ h = omega arith in ap (λ n. one_if (not (is_complete (members tasks n)))) z ∙ ap (λ (c : Bool). one_if (not c)) e
 
-      none_or : (n : ℕ) → (0 < n → ⊥) → n ≡ 0
-      none_or n f = grind arith
-
       same : (h : ℕ) → h < length groups → (b : Bool) → is_complete (members tasks h) ≡ b → times h hs ≡ one_if (not (is_complete (members tasks (0 + h))))
-      same h l true e = none_or (times h hs) (λ m. (only h m).lacking (passes_complete h e)) ∙ sym (here h true e)
+      same h l true e = zero_or (times h hs) (λ m. (only h m).lacking (passes_complete h e)) ∙ sym (here h true e)
       same h l false e = each h ((incomplete_iff h).1 (l, e)) ∙ sym (here h false e)
