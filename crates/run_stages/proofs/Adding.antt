@@ -9,13 +9,10 @@ use Rattle.serial_terms.proofs.Basics.{with_at_same, with_at_other}
 use Rattle.run_stages.specs.Work.{Work, IsWhole, IsMember, IsComplete, IsSoundWork, group_word, head_of, task_item, group_item, task, end_of}
 use Rattle.run_stages.specs.Allowed.{new_bytes, new_total}
 use Rattle.run_stages.specs.Stages.{IsAdded, AllAdded, Stages, LeadThrough, chain_bytes, chain_total, chain_word}
-use Rattle.run_stages.proofs.Counting.{times_cons_same, times_cons_other, times_push_same, times_push_other, push_length, group_items, task_no_group}
+use Rattle.run_stages.proofs.Counting.{zero_or, times_cons_same, times_cons_other, times_push_same, times_push_other, push_length, group_items, task_no_group}
 use Rattle.run_stages.proofs.Taking.{whole_no_member, one_group, taken_here, taken_other, taken_le, taken_held, still_added, was_added, some_held}
 use Rattle.run_stages.proofs.Matching.{lead_same}
 use Rattle.run_stages.proofs.Chains.{word_head, bytes_le, total_short, word_bytes, word_total, ready_complete, complete_ready}
-
-zero_or : (x : ℕ) → (0 < x → ⊥) → x ≡ 0
-zero_or x n = grind arith
 
 module _ {w : Work} {f : ℕ} {pool : Pool} {queue : Sequence} {words links : ℕ → Option ℕ} {log matched : List ℕ} {chain : ℕ → List ℕ} (g : Stages w f pool queue words links log matched chain) where
   -- ---- chains

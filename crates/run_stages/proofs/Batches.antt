@@ -1,5 +1,5 @@
 -- A run with a fill.
-use Rattle.std.proofs.Common.{◌≡◌, ℕ, zero, suc, ◌+◌, ◌-◌, ◌*◌, ◌^◌, ◌<◌, ◌≤◌, true, false, cond, List, [], ◌∷◌, ◌++◌, ◌⊎◌, length, ⊎_elim, sym, refl, ap, ◌∙◌, subst, arith, ltb}
+use Rattle.std.proofs.Common.{◌≡◌, ℕ, zero, suc, ◌+◌, ◌-◌, ◌*◌, ◌^◌, ◌<◌, ◌≤◌, true, false, cond, List, [], ◌∷◌, ◌++◌, length, ⊎_elim, sym, refl, ap, ◌∙◌, subst, arith, ltb}
 use Rattle.std.specs.Prelude.{Option, Some, None, replicate}
 use Rattle.std.proofs.Math.ListN.{get_or-eq_default}
 use Rattle.std.proofs.lemmas.List.{get_or-replicate, length-replicate}
@@ -10,13 +10,12 @@ use Rattle.serial_terms.specs.declared.call.Done.{Done}
 use Rattle.serial_terms.specs.Counts.{times}
 use Rattle.serial_terms.specs.Entries.{Entry, Each}
 use Rattle.serial_terms.specs.Histories.{Runs, IsLegalRun}
-use Rattle.serial_terms.specs.Serial.{State, IsWithinCapacity, IsReplied, step, first, rest, less, more, put_pool, put_queue, put_cell}
+use Rattle.serial_terms.specs.Serial.{State, IsWithinCapacity, IsReplied, step, first, rest, less, more, put_pool, put_queue, put_cell, outside, in_child}
 use Rattle.serial_terms.specs.Stores.{opening_of}
 use Rattle.serial_terms.proofs.Basics.{with_at_other, each_append}
 use Rattle.serial_terms.proofs.Legal.{legal_append}
 use Rattle.run_stages.specs.Work.{Work, IsSoundWork, IsWhole, IsMember, task, total_below, group_bytes, given_count, task_item, is_some_of}
 use Rattle.run_stages.specs.Allowed.{Appends, IsAllowed, take_whole, match_whole, nothing_queued, nothing_pooled, fill, gives, next_batch}
-use Rattle.serial_terms.specs.Serial.{outside, in_child}
 use Rattle.run_stages.specs.Stages.{IsLawful}
 use Rattle.run_stages.specs.Opening.{opening, layout_of, IsRunOfWork}
 use Rattle.run_stages.specs.Ends.{IsFinished}
@@ -24,7 +23,7 @@ use Rattle.run_stages.specs.Worked.{written, read_only, no_item, no_task, whole_
 use Rattle.run_stages.specs.Batches.{frames, turns, batch_records, BatchesRun}
 use Rattle.run_stages.proofs.Bounds.{end_lawful}
 use Rattle.serial_terms.proofs.Stepping.{opening_within, queue_within, log_within, pool_within, cell_within, after_calls, AreReplied, ran}
-use Rattle.run_stages.proofs.Counting.{total_same, numbers_length, times_numbers, push_length}
+use Rattle.run_stages.proofs.Counting.{below_or, total_same, numbers_length, times_numbers, push_length}
 use Rattle.run_stages.proofs.Filling.{pool_with}
 use Rattle.run_stages.proofs.Runs.{gives_run}
 
@@ -40,9 +39,6 @@ frames_alone n i = ⊎_elim
     (λ l. ap (λ (z : _). z.group) (get_or-replicate n i whole_task (record { group = None; start = 0; size = 0; last = false }) l))
     (λ l. ap (λ (z : _). z.group) (get_or-eq_default (replicate n whole_task) (record { group = None; start = 0; size = 0; last = false }) (let e = length-replicate n whole_task in omega arith)))
     (below_or i n)
-  where
-    below_or : (i n : ℕ) → (i < n) ⊎ (n ≤ i)
-    below_or i n = grind arith
 
 frames_no_member : (n h i : ℕ) → IsMember (frames n) h i → ⊥
 frames_no_member n h i m = let e : None ≡ Some h = sym (frames_alone n i) ∙ m.belongs in absurd (cc)

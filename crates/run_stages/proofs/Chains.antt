@@ -7,7 +7,7 @@ use Rattle.serial_terms.specs.Counts.{times, with_at}
 use Rattle.serial_terms.proofs.Basics.{with_at_same, with_at_other, if_true, if_false, bool_cases, true_or_false}
 use Rattle.run_stages.specs.Work.{Work, IsMember, IsComplete, IsSoundWork, task, end_of, total_below, group_bytes, is_some_of, group_word, head_of, bytes_of, total_of}
 use Rattle.run_stages.specs.Stages.{chain_bytes, chain_total}
-use Rattle.run_stages.proofs.Counting.{total_same, total_le, parts_same, total_at, times_cons_same, times_cons_other}
+use Rattle.run_stages.proofs.Counting.{times_cons_more, total_same, total_le, parts_same, total_at, times_cons_same, times_cons_other}
 
 -- ---- group words
 
@@ -93,7 +93,7 @@ module _ (w : Work) where
   total_more i c e = if_false (task w i).last (end_of w i) (chain_total w c) e
 
   in_more : (x i : ℕ) (c : List ℕ) → 0 < times x c → 0 < times x (i ∷ c)
-  in_more x i c l = dite (ℕ_discrete x i) (λ e. let a = times_cons_same x i c e in omega arith) (λ e. let a = times_cons_other x i c e in omega arith)
+  in_more x i c l = let a = times_cons_more x i c in omega arith
 
   -- a total that isn't 0 is the end of a last task in the chain
   pub total_ender : (c : List ℕ) → chain_total w c ≢ 0 → (e : ℕ) × (0 < times e c) × ((task w e).last ≡ true) × (chain_total w c ≡ end_of w e)

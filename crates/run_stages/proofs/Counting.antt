@@ -7,6 +7,14 @@ use Rattle.serial_terms.proofs.Basics.{with_at_same, with_at_other, if_true, if_
 use Rattle.serial_terms.proofs.Pools.{times_append}
 use Rattle.run_stages.specs.Work.{total_below, numbers_from, task_item, group_item}
 
+-- ---- numbers
+
+pub zero_or : (x : ℕ) → (0 < x → ⊥) → x ≡ 0
+zero_or x n = grind arith
+
+pub below_or : (i n : ℕ) → (i < n) ⊎ (n ≤ i)
+below_or i n = grind arith
+
 -- ---- sums
 
 pub total_same : (f g : ℕ → ℕ) (n : ℕ) → ((i : ℕ) → i < n → f i ≡ g i) → total_below f n ≡ total_below g n
@@ -43,6 +51,9 @@ times_cons_same x y ys e = ap (λ (z : ℕ). z + times x ys) (if_true (eqb x y) 
 
 pub times_cons_other : (x y : ℕ) (ys : List ℕ) → x ≢ y → times x (y ∷ ys) ≡ times x ys
 times_cons_other x y ys e = let a : times x (y ∷ ys) ≡ 0 + times x ys = ap (λ (z : ℕ). z + times x ys) (if_false (eqb x y) 1 0 (ne_eqb x y e)) in omega arith
+
+pub times_cons_more : (x y : ℕ) (ys : List ℕ) → times x ys ≤ times x (y ∷ ys)
+times_cons_more x y ys = dite (ℕ_discrete x y) (λ e. let a = times_cons_same x y ys e in omega arith) (λ e. let a = times_cons_other x y ys e in omega arith)
 
 pub times_push_same : (x y : ℕ) (xs : List ℕ) → x ≡ y → times x (xs ++ y ∷ []) ≡ times x xs + 1
 times_push_same x y xs e = let a = times_append x xs (y ∷ []) in let b = times_cons_same x y [] e in omega arith
@@ -94,9 +105,6 @@ total_times (x ∷ xs) n b = let a = total_add (λ i. cond (eqb i x) 1 0) (λ i.
 
 pub numbers_below : (i a k : ℕ) → 0 < times i (numbers_from a k) → i < a + k
 numbers_below i a k l = ⊎_elim (λ m. m) (λ m. let x = times_no_numbers i a k (inr m) in absurd (omega arith)) (below_or i (a + k))
-  where
-    below_or : (i n : ℕ) → (i < n) ⊎ (n ≤ i)
-    below_or i n = grind arith
 
 -- ---- items
 

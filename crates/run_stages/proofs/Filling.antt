@@ -1,18 +1,12 @@
 -- The next tasks are given.
-use Rattle.std.proofs.Common.{◌≡◌, ℕ, ◌+◌, ◌-◌, ◌*◌, ◌<◌, ◌≤◌, List, ◌⊎◌, length, inl, inr, ⊎_elim, arith}
+use Rattle.std.proofs.Common.{◌≡◌, ℕ, ◌+◌, ◌-◌, ◌*◌, ◌<◌, ◌≤◌, List, length, inl, inr, ⊎_elim, arith}
 use Rattle.std.specs.Prelude.{Option}
 use Rattle.serial_terms.specs.Counts.{times}
 use Rattle.serial_terms.specs.Serial.{Pool, Sequence}
 use Rattle.run_stages.specs.Work.{Work, given_count, task_item}
 use Rattle.run_stages.specs.Allowed.{next_batch}
 use Rattle.run_stages.specs.Stages.{IsAdded, Stages}
-use Rattle.run_stages.proofs.Counting.{total_add, total_times, times_numbers, times_no_numbers}
-
-below_or : (i n : ℕ) → (i < n) ⊎ (n ≤ i)
-below_or i n = grind arith
-
-zero_or : (x : ℕ) → (0 < x → ⊥) → x ≡ 0
-zero_or x n = grind arith
+use Rattle.run_stages.proofs.Counting.{zero_or, below_or, total_add, total_times, times_numbers, times_no_numbers}
 
 -- the pool with these items more
 abbrev pub pool_with : Pool → List ℕ → Pool

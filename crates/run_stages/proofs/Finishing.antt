@@ -11,7 +11,7 @@ use Rattle.run_stages.specs.Work.{Work, IsSoundWork, IsMember, given_count, task
 use Rattle.run_stages.specs.Stages.{IsAdded, IsLawful, chain_word}
 use Rattle.run_stages.specs.Ends.{IsFinished, AreAllDatagrams, IsIncomplete}
 use Rattle.run_stages.specs.Laws.{FinishedFindsAll, FinishedKeepsIncomplete}
-use Rattle.run_stages.proofs.Counting.{total_zero, times_cons_same, times_cons_other}
+use Rattle.run_stages.proofs.Counting.{zero_or, total_zero, times_cons_same, times_cons_other}
 use Rattle.run_stages.proofs.Matching.{values_append}
 
 -- ---- lists with the same numbers
@@ -40,9 +40,6 @@ same_values w (x ∷ xs) ys e =
 -- each number is a task's item or a group's
 pub item_cases : (x : ℕ) → ((i : ℕ) × (x ≡ task_item i)) ⊎ ((h : ℕ) × (x ≡ group_item h))
 item_cases x = dite (ℕ_discrete (x % 2) 0) (λ e. inl (x / 2, omega arith)) (λ e. inr (x / 2, omega arith))
-
-zero_or : (x : ℕ) → (0 < x → ⊥) → x ≡ 0
-zero_or x n = grind arith
 
 module _ (w : Work) (s : State) (l : IsLawful w s) (e : IsFinished w s) where
   not_pooled : (i : ℕ) → (s.pools 0).count i ≡ 0

@@ -21,7 +21,7 @@ use Rattle.run_stages.specs.Work.{Work, IsSoundWork, IsWhole, IsMember, IsComple
 use Rattle.run_stages.specs.Stages.{IsLawful}
 use Rattle.run_stages.specs.Ends.{IsFinished, AreAllDatagrams}
 use Rattle.run_stages.specs.FromCapture.{whole_values, work_of}
-use Rattle.run_stages.proofs.Counting.{total_same, times_cons_same, times_cons_other, task_items, group_items, task_no_group}
+use Rattle.run_stages.proofs.Counting.{total_same, times_cons_same, times_cons_more, times_cons_other, task_items, group_items, task_no_group}
 use Rattle.run_stages.proofs.Matching.{task_item_values, group_item_values, values_append}
 use Rattle.run_stages.proofs.Finishing.{item_cases, same_values, finds_all, incomplete_alone}
 use Rattle.run_stages.proofs.FromTasks.{one_if, count_range, incomplete_iff, nth, nth_is, long, below, group_at, complete_passes, passes_complete}
@@ -308,10 +308,7 @@ in_list x (y ∷ xs) l = dite (ℕ_discrete x y)
 list_in : (xs : List ℕ) (k d : ℕ) → k < length xs → 0 < times (get_or xs k d) xs
 list_in [] k d l = absurd (omega arith)
 list_in (x ∷ xs) zero d l = let a = times_cons_same x x xs refl in omega arith
-list_in (x ∷ xs) (suc k) d l = let r = list_in xs k d (omega arith) in more (get_or xs k d) x xs r
-  where
-    more : (z x : ℕ) (xs : List ℕ) → 0 < times z xs → 0 < times z (x ∷ xs)
-    more z x xs l = dite (ℕ_discrete z x) (λ e. let a = times_cons_same z x xs e in omega arith) (λ n. let a = times_cons_other z x xs n in omega arith)
+list_in (x ∷ xs) (suc k) d l = let r = list_in xs k d (omega arith) in let m = times_cons_more (get_or xs k d) x xs in omega arith
 
 module _ (rules : List Rule) (bytes : List ℕ) (tasks : List Task) (groups : List Group) where
   there : (i : ℕ) → i < length tasks → slice_get tasks i ≡ Some (nth rules bytes tasks groups i)

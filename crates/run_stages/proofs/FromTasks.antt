@@ -1,6 +1,6 @@
 -- The work of tasks: what a run has of each task, of each group, and which groups are complete.
 use Rattle.std.proofs.Common.{◌≡◌, ℕ, zero, suc, ◌+◌, ◌<◌, Bool, true, false, cond, List, [], ◌∷◌, Option, None, Some, ⊎_elim, refl, sym, ◌∙◌, ap, arith, length, get_or, eq-eqb}
-use Rattle.std.specs.Prelude.{Contains, filter, not, ◌&&◌, ◌==◌, sum_by, count_by, if◌then◌else◌, ◌↔◌}
+use Rattle.std.specs.Prelude.{slice_get, Contains, filter, not, ◌&&◌, ◌==◌, sum_by, count_by, if◌then◌else◌, ◌↔◌}
 use Rattle.std.specs.List.{range_with_len}
 use Rattle.std.specs.Option.{option_map_or}
 use Rattle.std.proofs.lemmas.Bool.Decides.{nat_tests}
@@ -24,7 +24,7 @@ use Rattle.serial_terms.proofs.Basics.{bool_cases, true_or_false}
 use Rattle.run_stages.specs.Work.{Work, TaskFacts, IsSoundWork, IsMember, IsComplete, task, end_of, group_bytes, is_some_of, total_below}
 use Rattle.run_stages.specs.Ends.{IsIncomplete}
 use Rattle.run_stages.specs.FromCapture.{facts_of, work_of}
-use Rattle.run_stages.proofs.Counting.{total_same, total_times}
+use Rattle.run_stages.proofs.Counting.{total_same, total_times, zero_or}
 
 -- ---- sums over a list, and over the numbers of its places
 
@@ -94,6 +94,9 @@ module _ (rules : List Rule) (bytes : List ℕ) (tasks : List Task) (groups : Li
   pub facts_are : (i : ℕ) → task w i ≡ facts_of (nth i)
   unfolding work_of
   facts_are i = get_or-map facts_of tasks i no_task
+
+  pub facts_at : (i : ℕ) (t : Task) → slice_get tasks i ≡ Some t → task w i ≡ facts_of t
+  facts_at i t at = facts_are i ∙ ap facts_of (there_get tasks i t no_task at).1
 
   pub nth_is : (i : ℕ) (d : Task) → i < length tasks → nth i ≡ get_or tasks i d
   nth_is i d l = get_or_default tasks i no_task d l
@@ -203,9 +206,6 @@ module _ (rules : List Rule) (bytes : List ℕ) (tasks : List Task) (groups : Li
       here : (h : ℕ) (b : Bool) → is_complete (members tasks h) ≡ b → one_if (not (is_complete (members tasks (0 + h)))) ≡ one_if (not b)
       here h b e = let z : 0 + h ≡ h = omega arith in ap (λ n. one_if (not (is_complete (members tasks n)))) z ∙ ap (λ (c : Bool). one_if (not c)) e
 
-      none_or : (n : ℕ) → (0 < n → ⊥) → n ≡ 0
-      none_or n f = grind arith
-
       same : (h : ℕ) → h < length groups → (b : Bool) → is_complete (members tasks h) ≡ b → times h hs ≡ one_if (not (is_complete (members tasks (0 + h))))
-      same h l true e = none_or (times h hs) (λ m. (only h m).lacking (passes_complete h e)) ∙ sym (here h true e)
+      same h l true e = zero_or (times h hs) (λ m. (only h m).lacking (passes_complete h e)) ∙ sym (here h true e)
       same h l false e = each h ((incomplete_iff h).1 (l, e)) ∙ sym (here h false e)

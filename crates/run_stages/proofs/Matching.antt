@@ -8,7 +8,7 @@ use Rattle.serial_terms.specs.Serial.{Pool, Sequence}
 use Rattle.serial_terms.proofs.Basics.{with_at_same, with_at_other, if_true, if_false, append_nil}
 use Rattle.run_stages.specs.Work.{Work, IsWhole, IsComplete, given_count, task_item, group_item, item_values, values_of}
 use Rattle.run_stages.specs.Stages.{AllAdded, Stages, LeadThrough, chain_word}
-use Rattle.run_stages.proofs.Counting.{times_cons_same, times_cons_other, times_push_same, times_push_other, task_items, group_items, task_no_group}
+use Rattle.run_stages.proofs.Counting.{zero_or, times_cons_same, times_cons_other, times_push_same, times_push_other, task_items, group_items, task_no_group}
 use Rattle.run_stages.proofs.Taking.{one_group}
 
 pub task_item_values : (w : Work) (i : ℕ) → item_values w (task_item i) ≡ w.task_values i
@@ -90,9 +90,6 @@ module _ {w : Work} {f : ℕ} {pool : Pool} {queue : Sequence} {words links : �
 
     in_kept : (k j : ℕ) → k ≢ h → 0 < times j (chain k) → times j (chain h) ≡ 0
     in_kept k j n l = zero_or (times j (chain h)) (λ m. n (one_group w k h j (g.only_chained k j l).0.member (g.only_chained h j m).0.member))
-      where
-        zero_or : (x : ℕ) → (0 < x → ⊥) → x ≡ 0
-        zero_or x f = grind arith
 
     pub group_matched : Stages w f pool (record { items = rest; capacity = queue.capacity }) (with_at words h None) fewer (log ++ w.group_values h) (matched ++ group_item h ∷ []) (with_at chain h [])
     group_matched = record {

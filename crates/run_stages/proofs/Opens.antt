@@ -1,15 +1,12 @@
 -- The opening.
-use Rattle.std.proofs.Common.{◌≡◌, ℕ, ◌<◌, ◌≤◌, [], ◌⊎◌, length, inr, ⊎_elim, sym, refl, ◌∙◌, arith}
+use Rattle.std.proofs.Common.{◌≡◌, ℕ, ◌<◌, ◌≤◌, [], length, inr, ⊎_elim, sym, refl, ◌∙◌, arith}
 use Rattle.serial_terms.specs.Counts.{times}
 use Rattle.serial_terms.specs.Stores.{opening_of}
 use Rattle.run_stages.specs.Work.{Work, given_count, numbers_from}
 use Rattle.run_stages.specs.Stages.{IsAdded, IsLawful}
 use Rattle.run_stages.specs.Opening.{layout_of, opening}
 use Rattle.run_stages.specs.Laws.{OpeningIsLawful}
-use Rattle.run_stages.proofs.Counting.{total_times, numbers_length, times_numbers, times_no_numbers}
-
-below_or : (i n : ℕ) → (i < n) ⊎ (n ≤ i)
-below_or i n = grind arith
+use Rattle.run_stages.proofs.Counting.{below_or, total_times, numbers_length, times_numbers, times_no_numbers}
 
 module _ (w : Work) (findings : ℕ) where
   n : ℕ

@@ -15,7 +15,7 @@ use Rattle.serial_terms.proofs.Basics.{with_at_own, with_at_twice, with_at_same,
 use Rattle.run_stages.specs.Work.{Work, group_item}
 use Rattle.run_stages.specs.Allowed.{Appends, gives, ready, walk}
 use Rattle.run_stages.specs.Stages.{LeadThrough}
-use Rattle.run_stages.proofs.Counting.{times_cons_same, times_cons_other}
+use Rattle.run_stages.proofs.Counting.{times_cons_more, times_cons_same, times_cons_other}
 use Rattle.run_stages.proofs.Filling.{pool_with}
 use Rattle.run_stages.proofs.Matching.{lead_same}
 
@@ -112,7 +112,7 @@ module _ (w : Work) where
       let far : (x : ℕ) → 0 < times x (j ∷ js) → x ≢ i = λ x m y. (let a = ap (λ (z : ℕ). times z (j ∷ js)) y in omega arith) in
       let rec = walk_run js j ks (with_links s (with_at (s.maps 1) i None)) t
       (lead_same w (s.maps 1) (with_at (s.maps 1) i None) (j ∷ js) (λ x m. with_at_other (s.maps 1) i None x (far x m)) l.1)
-      (λ x. let a = o x in let b = more_times x i (j ∷ js) in omega arith)
+      (λ x. let a = o x in let b = times_cons_more x i (j ∷ js) in omega arith)
       (subst (λ (z : ℕ). Runs (with_links s (with_at (s.maps 1) i None)) (walk w z ks) t) same r.1.1) in
       record {
         fewer = rec.fewer;
@@ -122,6 +122,3 @@ module _ (w : Work) where
         kept = λ x m. let y : x ≢ i = (λ z. let a = times_cons_same x i (j ∷ js) z in omega arith) in rec.kept x (let a = times_cons_other x i (j ∷ js) y in omega arith) ∙ with_at_other (s.maps 1) i None x y;
         state = (λ x. record s { maps = sym (with_at_twice s.maps 1 (with_at (s.maps 1) i None) rec.fewer) x }) ∙ rec.state;
       }
-    where
-      more_times : (x i : ℕ) (is : List ℕ) → times x is ≤ times x (i ∷ is)
-      more_times x i is = dite (ℕ_discrete x i) (λ e. let a = times_cons_same x i is e in omega arith) (λ e. let a = times_cons_other x i is e in omega arith)

@@ -6,12 +6,11 @@ use Rattle.serial_terms.specs.declared.call.Reply.TheVariants.{Nothing, Value}
 use Rattle.serial_terms.specs.declared.call.Done.{Done}
 use Rattle.serial_terms.specs.Counts.{times, with_at}
 use Rattle.serial_terms.specs.Histories.{Runs}
-use Rattle.serial_terms.specs.Serial.{State, less, put_map, put_queue, put_cell, rest, IsReplied, step}
+use Rattle.serial_terms.specs.Serial.{put_log, State, less, put_map, put_queue, put_cell, rest, IsReplied, step, outside, in_child}
 use Rattle.serial_terms.proofs.Basics.{with_at_same, with_at_other, with_at_own}
 use Rattle.serial_terms.proofs.Running.{run_split}
 use Rattle.run_stages.specs.Work.{Work, IsSoundWork, IsWhole, IsMember, task_item, group_item, group_word, head_of}
 use Rattle.run_stages.specs.Allowed.{take_whole, take_fragment, match_whole, match_group, nothing_queued, nothing_pooled, fill, added, ready, walk, Appends, gives, next_batch, new_bytes, new_total, new_word}
-use Rattle.serial_terms.specs.Serial.{outside, in_child}
 use Rattle.run_stages.specs.Stages.{Stages, IsLawful, LeadThrough, chain_bytes, chain_total, chain_word}
 use Rattle.run_stages.specs.Laws.{AllowedKeepsLawful}
 use Rattle.run_stages.proofs.Taking.{whole_taken}
@@ -52,7 +51,7 @@ module _ (w : Work) (p : IsSoundWork w) (s : State) (l : IsLawful w s) where
       let two = run_split IsReplied step (walk w (head_of x) before) more u t r.1.1.1 in
       let v = walk_run w c.0 (head_of x) before u two.0 (subst (LeadThrough w (s.maps 1)) c.1 (g.lead h)) once two.1 in
       let e = appends_run w (w.group_values h) more (with_links u v.fewer) t a (subst (λ (z : State). Runs z more t) (sym v.state) two.2) in
-      subst (IsLawful w) e (record {
+      subst (IsLawful w) {x = put_log (with_links u v.fewer) 0 ((s.logs 0).items ++ w.group_values h)} e (record {
         matched = l.matched ++ group_item h ∷ [];
         chain = with_at l.chain h [];
         stages = group_matched g (rest (s.queues 0).items) h (q.1 ∙ ap (λ (z : List ℕ). group_item h ∷ z) (sym (ap rest q.1))) v.fewer

@@ -15,7 +15,7 @@ use Rattle.run_stages.specs.Allowed.{walk}
 use Rattle.run_stages.specs.Ends.{AreAllDatagrams, all_tasks_taken, all_items_taken}
 use Rattle.run_stages.specs.Stages.{AllAdded, IsLawful, LeadThrough, chain_bytes, chain_total, chain_word}
 use Rattle.run_stages.specs.Told.{walked, TakenIsTask, QueuedIsDatagram, AddedWordFits, WalkStaysInGroup, WalkFindsGroup, LogIsPartOfAll, OneCallerTakesLess}
-use Rattle.run_stages.proofs.Counting.{total_le, total_times, times_cons_same, times_cons_other}
+use Rattle.run_stages.proofs.Counting.{times_cons_more, total_le, total_times, times_cons_same, times_cons_other}
 use Rattle.run_stages.proofs.Taking.{some_held}
 use Rattle.run_stages.proofs.Chains.{bytes_le, total_short}
 use Rattle.run_stages.proofs.Adding.{heads, chain_members, chain_once, bytes_now, total_now, more_members, more_once}
@@ -77,12 +77,9 @@ walk_follows w (j ∷ js) i (k ∷ ks) s t l o r =
     let far : (x : ℕ) → 0 < times x (j ∷ js) → x ≢ i = λ x m y. (let a = o i in let b = times_cons_same i i (j ∷ js) refl in let c = ap (λ (z : ℕ). times z (j ∷ js)) y in omega arith) in
     let rec = walk_follows w js j ks (put_map s 1 i None) t
     (lead_same w (s.maps 1) (with_at (s.maps 1) i None) (j ∷ js) (λ x m. with_at_other (s.maps 1) i None x (far x m)) l.1)
-    (λ x. let a = o x in let b = more_times x i (j ∷ js) in omega arith)
+    (λ x. let a = o x in let b = times_cons_more x i (j ∷ js) in omega arith)
     (subst (λ (z : ℕ). Runs (put_map s 1 i None) (walked z ks) t) same r.1.1) in
     (rec.0, (λ x. sym same x ∷ rec.1 x))
-  where
-    more_times : (x i : ℕ) (is : List ℕ) → times x is ≤ times x (i ∷ is)
-    more_times x i is = dite (ℕ_discrete x i) (λ e. let a = times_cons_same x i is e in omega arith) (λ e. let a = times_cons_other x i is e in omega arith)
 
 -- and ends where the chain ends
 walk_ends : (w : Work) (is : List ℕ) (i : ℕ) (before : List ℕ) (s t : State) → LeadThrough w (s.maps 1) (i ∷ is) → ((j : ℕ) → times j (i ∷ is) ≤ 1) → Runs s (walk w i before) t → is ≡ before
@@ -94,12 +91,9 @@ walk_ends w (j ∷ js) i (k ∷ ks) s t l o r =
     let far : (x : ℕ) → 0 < times x (j ∷ js) → x ≢ i = λ x m y. (let a = o i in let b = times_cons_same i i (j ∷ js) refl in let c = ap (λ (z : ℕ). times z (j ∷ js)) y in omega arith) in
     let rec = walk_ends w js j ks (put_map s 1 i None) t
     (lead_same w (s.maps 1) (with_at (s.maps 1) i None) (j ∷ js) (λ x m. with_at_other (s.maps 1) i None x (far x m)) l.1)
-    (λ x. let a = o x in let b = more_times x i (j ∷ js) in omega arith)
+    (λ x. let a = o x in let b = times_cons_more x i (j ∷ js) in omega arith)
     (subst (λ (z : ℕ). Runs (put_map s 1 i None) (walk w z ks) t) same r.1.1) in
     λ x. sym same x ∷ rec x
-  where
-    more_times : (x i : ℕ) (is : List ℕ) → times x is ≤ times x (i ∷ is)
-    more_times x i is = dite (ℕ_discrete x i) (λ e. let a = times_cons_same x i is e in omega arith) (λ e. let a = times_cons_other x i is e in omega arith)
 
 module _ (w : Work) (p : IsSoundWork w) (s : State) (l : IsLawful w s) (h x : ℕ) (e : s.maps 0 h ≡ Some x) where
   on_chain_once : (j : ℕ) → times j (head_of x ∷ (heads l.stages p h x e).0) ≤ 1

@@ -5,7 +5,7 @@ use mathlib.Core.Logic.{dite}
 use native.Mathlib.Decide.{ℕ_discrete}
 use Rattle.serial_terms.specs.Entries.{Each}
 use Rattle.serial_terms.specs.Histories.{IsLegalHistory}
-use Rattle.serial_terms.specs.Serial.{less}
+use Rattle.serial_terms.specs.Serial.{less, in_child}
 use Rattle.serial_terms.specs.Stores.{opening_of}
 use Rattle.serial_terms.proofs.Showing.{in_order, all_apart}
 use Rattle.run_stages.specs.Work.{IsSoundWork, IsWhole, IsMember, task, end_of, group_bytes}
@@ -13,7 +13,6 @@ use Rattle.serial_terms.specs.declared.call.Call.TheVariants.{AppendPlaced}
 use Rattle.serial_terms.specs.declared.call.Reply.TheVariants.{Value}
 use Rattle.serial_terms.proofs.Basics.{if_false}
 use Rattle.run_stages.specs.Allowed.{IsAllowed, take_whole, take_fragment, match_whole, match_group, nothing_queued, nothing_pooled}
-use Rattle.serial_terms.specs.Serial.{in_child}
 use Rattle.run_stages.specs.Opening.{opening, layout_of}
 use Rattle.run_stages.specs.Worked.{one_frame, one_frame_records, two_fragments, two_fragments_records, IsWholeRun, WorkedRuns}
 use Rattle.run_stages.proofs.Bounds.{end_lawful}

@@ -1,15 +1,37 @@
 //! Laws of the work that a capture gives. Each function does nothing; what it ensures is the law.
 
-ghost use Rattle.run_stages.specs.FromCapture.{PlansAreWork, ValuesAreFindings, FinishedFindsCapture, IncompleteAreCounted, FinishedCountsIncomplete, WholeIsDatagram, GroupIsDatagram};
+ghost use Rattle.run_stages.specs.FromCapture.{TasksHaveFacts, PlansAreWork, WholeIsDatagram, GroupIsDatagram, DatagramsAreListed, ValuesAreFindings, FinishedFindsCapture, LogIsPartOfFindings, IncompleteAreCounted, FinishedCountsIncomplete};
 
+use crate::laws::log_is_part_of_all;
 use capture_terms::{group_law, task_law};
 
-/// The tasks and groups of a capture's plan are a plan of a run.
+/// What a run has of each task is what the task has.
+pub fn tasks_have_facts()
+    ensures { TasksHaveFacts }
+{}
+
+/// The work of a capture's plan is sound.
 pub fn plans_are_work()
     ensures { PlansAreWork }
 {
     group_law();
 }
+
+/// A whole datagram's task is asked for by its number, and has the values of the findings in it.
+pub fn whole_is_datagram()
+    ensures { WholeIsDatagram }
+{}
+
+/// A complete group's datagram is asked for by the numbers of the group's tasks, in any order, and the
+/// group has the values of the findings in it.
+pub fn group_is_datagram()
+    ensures { GroupIsDatagram }
+{}
+
+/// Some list has all datagrams of a run, and their values are the findings in order.
+pub fn datagrams_are_listed()
+    ensures { DatagramsAreListed }
+{}
 
 /// The values of all datagrams of a run are the findings in the datagrams of the tasks, in some order.
 pub fn values_are_findings()
@@ -21,6 +43,15 @@ pub fn values_are_findings()
 pub fn finished_finds_capture()
     ensures { FinishedFindsCapture }
 {
+    task_law();
+}
+
+/// The log of a lawful state never has more values than there are findings in the capture, and has room
+/// among these for those of the queue's first item.
+pub fn log_is_part_of_findings()
+    ensures { LogIsPartOfFindings }
+{
+    log_is_part_of_all();
     task_law();
 }
 
@@ -36,14 +67,3 @@ pub fn finished_counts_incomplete()
 {
     group_law();
 }
-
-/// A whole datagram's task is asked for by its number, and has the values of the findings in it.
-pub fn whole_is_datagram()
-    ensures { WholeIsDatagram }
-{}
-
-/// A complete group's datagram is asked for by the numbers of the group's tasks, in any order, and the
-/// group has the values of the findings in it.
-pub fn group_is_datagram()
-    ensures { GroupIsDatagram }
-{}
