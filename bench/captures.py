@@ -1,9 +1,10 @@
 #!/usr/bin/env python3
 """Writes captures for the benchmark: captures.py KIND FRAMES FILE.
 
-KIND is `mixed` (whole UDP datagrams, other frames and datagrams in three fragments),
-`clashing` (one last fragment far out, then one long row of fragments sent again and again),
-or `example` (the small capture in examples/; FRAMES is passed over).
+KIND is `mixed` (whole UDP datagrams, other frames and datagrams in three fragments), `clashing` (8,192
+places of one datagram, sent again and again; the last three lie beyond the greatest datagram), `long`
+(one datagram in so many fragments of 8 bytes, the last one first), or `example` (the small capture in
+examples/; FRAMES is passed over).
 """
 import struct
 import sys
@@ -50,12 +51,15 @@ def mixed(frames):
 
 
 def clashing(frames):
-    places = [8 * i for i in range(8189)]
-    number = 0
-    while number < frames:
-        for at in places[:frames - number]:
-            yield ip(1, at, True, 1, b"abcdefgh")
-            number += 1
+    for number in range(frames):
+        yield ip(1, 8 * (number % 8192), True, 1, b"aaaaaaaa")
+
+
+def long(frames):
+    end = 8 * (frames - 1)
+    yield ip(1, end, False, 1, b"aaaaaaaZ")
+    for at in range(0, end, 8):
+        yield ip(1, at, True, 1, b"aaaaaaaa")
 
 
 def example(_frames):
@@ -69,7 +73,7 @@ def example(_frames):
     yield ip(6, 0, True, 1, b"abcdefgh")
 
 
-KINDS = {"mixed": mixed, "clashing": clashing, "example": example}
+KINDS = {"mixed": mixed, "clashing": clashing, "long": long, "example": example}
 
 
 def main():
