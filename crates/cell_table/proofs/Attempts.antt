@@ -1,5 +1,5 @@
 -- What the steps of an attempt make of a pass.
-use Rattle.std.proofs.Common.{◌≡◌, ◌≢◌, ℕ, zero, suc, ◌+◌, ◌-◌, ◌*◌, ◌/◌, ◌%◌, ◌^◌, ◌<◌, ◌≤◌, Bool, true, false, cond, eqb, ltb, leb, List, [], ◌∷◌, ◌++◌, ◌⊎◌, length, inl, inr, ⊎_elim, sym, refl, ap, ◌∙◌, subst, arith, eq-eqb, ne_eqb, Some, None, Option, reverse, max, ◌==◌}
+use Rattle.std.proofs.Common.{◌≡◌, ◌≢◌, ℕ, ◌+◌, ◌-◌, ◌*◌, ◌^◌, ◌<◌, ◌≤◌, Bool, true, false, cond, List, [], ◌∷◌, ◌++◌, length, inl, inr, ⊎_elim, sym, refl, ap, ◌∙◌, subst, arith, eq-eqb, ne_eqb, Some, None, Option, reverse, ◌==◌}
 use mathlib.Core.Logic.{dite}
 use mathlib.Core.List.{reverse-cons}
 use native.Mathlib.Decide.{ℕ_discrete}
@@ -18,7 +18,7 @@ use Rattle.cell_table.specs.declared.view.Event.TheVariants.{LockStored, ValueSt
 use Rattle.cell_table.specs.declared.view.OpenRead.TheVariants.{NoRead, LockRead, ValueRead}
 use Rattle.cell_table.specs.declared.entry.HeldCell.{HeldCell}
 use Rattle.cell_table.specs.Rule.{cells_of, without}
-use Rattle.cell_table.specs.Steps.{Triples, cell_key, add_kept, add_held, next_read, valued, taken, missed, drawn, first_put, next_put, given, enter, after_release, more_stored, due, kept_in, Observes, Reads, Grows, MayDecide, MayStore, IsUndecided, IsStoredOrUndecided, AllHeld, IsIdle}
+use Rattle.cell_table.specs.Steps.{Triples, cell_key, add_kept, add_held, next_read, valued, taken, drawn, first_put, next_put, given, enter, after_release, more_stored, due, kept_in, Observes, Reads, Grows, MayDecide, MayStore, IsUndecided, IsStoredOrUndecided, AllHeld, IsIdle}
 use Rattle.cell_table.specs.Legal.{LegalNow}
 use Rattle.cell_table.specs.Pass.{PassState, note, plan_after, after_give, after_put, after_entry, version_drawn, MayPut}
 use Rattle.cell_table.specs.IsPass.{IsPass, IsReader, IsPlanned, AreWritten, PlacesFrom, writer_books, writers_after}
@@ -27,10 +27,9 @@ use Rattle.cell_table.specs.declared.entry.Entry.{Entry}
 use Rattle.cell_table.specs.Seats.{Tied, noted_of, plan_of, record_of, FitsFlags, FitsDrawn, is_stored, held_key, pairs_of, mark, without_held, flag_in}
 use Rattle.cell_table.proofs.Histories.{bool_cases}
 use Rattle.cell_table.proofs.Sorted.{each_map, each_insert, insert_ascends, each_append}
-use Rattle.cell_table.proofs.HeldCells.{has_first}
 use Rattle.cell_table.proofs.ValueStore.{enter_some}
 use Rattle.cell_table.proofs.HeldList.{pairs_insert, pairs_without, pairs_mark, sorted_without, sorted_mark, each_without_held, not_among, first_marked, next_marked, flag_is}
-use Rattle.cell_table.proofs.Passes.{readers_on, may_decide_on, grows_drawn, grows_first_put, grows_next_put, grows_given, grows_taken}
+use Rattle.cell_table.proofs.Passes.{readers_on, may_decide_on, grows_drawn, grows_first_put, grows_next_put, grows_given}
 
 -- A load of a value
 

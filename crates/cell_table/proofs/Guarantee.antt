@@ -1,11 +1,10 @@
 -- What a step of one caller guarantees to the views of all others: each of them that fitted still fits.
-use Rattle.std.proofs.Common.{◌≡◌, ◌≢◌, ℕ, zero, suc, ◌+◌, ◌-◌, ◌*◌, ◌<◌, ◌≤◌, Bool, true, false, cond, eqb, List, [], ◌∷◌, ◌⊎◌, length, get_or, set, inl, inr, ⊎_elim, sym, refl, ap, ◌∙◌, subst, arith}
+use Rattle.std.proofs.Common.{◌≡◌, ◌≢◌, ℕ, ◌+◌, ◌*◌, ◌<◌, ◌≤◌, List, [], ◌∷◌, ◌⊎◌, set, ⊎_elim, sym, ap, ◌∙◌, subst, arith}
 use mathlib.Core.Option.{some}
 use lib.ListN.{get_elem?}
 use Rattle.atomic_table.proofs.Lists.{at_set}
 use Rattle.cell_table.specs.Sorted.{Each}
-use Rattle.cell_table.specs.Cells.{writes_to, has}
-use Rattle.cell_table.specs.History.{Outcome, unused, pending, decided, upd, touches, value_at, version_at, records_by, Unheld, IsVersion, IsValue, IsNewest, Stands}
+use Rattle.cell_table.specs.History.{Outcome, pending, decided, value_at, version_at, records_by, Unheld, IsVersion, IsValue, IsNewest}
 use Rattle.cell_table.specs.declared.view.Record.{Record}
 use Rattle.cell_table.specs.declared.view.Book.{Book}
 use Rattle.cell_table.specs.declared.view.Event.{Event}
@@ -15,9 +14,8 @@ use Rattle.cell_table.specs.declared.view.Stage.{Stage}
 use Rattle.cell_table.specs.declared.view.Stage.TheVariants.{Open, Drawn, Decided}
 use Rattle.cell_table.specs.declared.view.OpenRead.{OpenRead}
 use Rattle.cell_table.specs.declared.view.OpenRead.TheVariants.{NoRead, LockRead, ValueRead}
-use Rattle.cell_table.proofs.Histories.{bool_cases}
 use Rattle.cell_table.proofs.Sorted.{each_map, each_both}
-use Rattle.cell_table.specs.Rule.{clock_of, lock_of, word_of, cells_of, actor, newest, value_now, IsClean, IsUnstored, IsSettled, FitsStage, FitsRead, FitsEvent, Fits}
+use Rattle.cell_table.specs.Rule.{clock_of, lock_of, word_of, actor, newest, value_now, IsClean, IsUnstored, IsSettled, FitsStage, FitsRead, FitsEvent, Fits}
 
 module _ {A : Type 0} where
   -- a fact of each view

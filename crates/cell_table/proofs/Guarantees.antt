@@ -1,8 +1,7 @@
 -- Each kind of change that a step makes to the history and the words meets the guarantee.
-use Rattle.std.proofs.Common.{◌≡◌, ◌≢◌, ℕ, zero, suc, ◌+◌, ◌-◌, ◌*◌, ◌<◌, ◌≤◌, Bool, true, false, cond, eqb, List, [], ◌∷◌, ◌⊎◌, length, get_or, set, inl, inr, ⊎_elim, sym, refl, ap, ◌∙◌, subst, arith}
+use Rattle.std.proofs.Common.{◌≡◌, ◌≢◌, ℕ, suc, ◌+◌, ◌*◌, ◌<◌, ◌≤◌, Bool, true, false, cond, List, ◌⊎◌, get_or, inl, inr, ⊎_elim, sym, refl, ap, ◌∙◌, subst, arith}
 use mathlib.Core.Logic.{dite}
 use native.Mathlib.Decide.{ℕ_discrete, dec_lt}
-use Rattle.cell_table.specs.Sorted.{Each}
 use Rattle.cell_table.specs.Cells.{writes_to, has}
 use Rattle.cell_table.specs.History.{Outcome, unused, pending, decided, upd, touches, left_in, value_at, version_at, records_by, Unheld, IsVersion, IsValue, IsNewest, Stands}
 use Rattle.cell_table.specs.declared.view.Record.{Record}

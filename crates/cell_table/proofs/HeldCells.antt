@@ -1,31 +1,12 @@
 -- Lists of held cells, each with the version that it had.
-use Rattle.std.proofs.Common.{◌≡◌, ◌≢◌, ℕ, zero, suc, ◌+◌, ◌-◌, ◌*◌, ◌/◌, ◌%◌, ◌^◌, ◌<◌, ◌≤◌, Bool, true, false, cond, eqb, ltb, leb, List, [], ◌∷◌, ◌++◌, ◌⊎◌, length, get_or, set, inl, inr, ⊎_elim, sym, refl, ap, ◌∙◌, subst, arith, eq-eqb, ne_eqb, length-set, get_or-set_other, get_or-set_same}
+use Rattle.std.proofs.Common.{◌≡◌, ◌≢◌, ℕ, Bool, true, cond, ltb, List, [], ◌∷◌, inl, inr, ⊎_elim, sym, ap, ◌∙◌, subst, eq-eqb, ne_eqb}
 use mathlib.Core.Logic.{dite}
-use mathlib.Core.Option.{some, none}
-use native.Mathlib.Decide.{ℕ_discrete, dec_lt, dec_le}
-use lib.ListN.{get_elem?}
-use lib.Seq.{set-get_or}
-use prog.Atomic.{either}
-use Rattle.std.proofs.lemmas.Bool.{le-leb, lt-leb}
-use Rattle.atomic_table.specs.Table.{State, Me, Act, step, keeps, stepped, Allows}
-use Rattle.atomic_table.proofs.Lists.{exchanged}
-use Rattle.cell_table.specs.Sorted.{Each, Among, insert_by, merge_by, IsAscendingBy}
-use Rattle.cell_table.specs.Cells.{writes_to, written, has, Leaves}
-use Rattle.cell_table.specs.History.{Outcome, unused, pending, decided, upd, touches, left_in, noted, value_at, version_at, records_by, Unheld, IsVersion, IsValue, IsNewest, Stands}
-use Rattle.cell_table.specs.declared.view.Record.{Record}
-use Rattle.cell_table.specs.declared.view.Book.{Book}
-use Rattle.cell_table.specs.declared.view.View.{View}
-use Rattle.cell_table.specs.declared.view.Stage.{Stage}
-use Rattle.cell_table.specs.declared.view.Stage.TheVariants.{Open, Drawn, Decided}
-use Rattle.cell_table.specs.declared.view.OpenRead.{OpenRead}
-use Rattle.cell_table.specs.declared.view.OpenRead.TheVariants.{NoRead, LockRead, ValueRead}
-use Rattle.cell_table.specs.declared.view.Event.TheVariants.{ClockLoaded, LockLoaded, ValueLoaded, LockExchanged, VersionDrawn, ValueStored, LockStored, SeatMoved}
-use Rattle.cell_table.specs.Rule.{clock_of, lock_of, word_of, cells_of, without, actor, callers_of, newest, value_now, IsClean, IsUnstored, IsSettled, FitsStage, FitsRead, FitsEvent, Fits, IsAscending, draws_left, IsRecord, Rule}
-use Rattle.cell_table.specs.Steps.{Triples, cell_key, caller_key, add_validation, validate_all, validate_open, add_read, add_kept, add_held, next_read, after_release, more_stored, kept_in, due, IsStoredOrUndecided, MayStore, MayDecide, AllHeld, clocked, free_look, held_look, looked, valued, taken, missed, drawn, first_put, next_put, given, enter, Observes, IsWord}
-use Rattle.cell_table.specs.Legal.{LegalNow}
-use Rattle.cell_table.specs.Told.{clock_told, lock_told, value_told, take_told, draw_told, give_told, first_told, next_told}
+use native.Mathlib.Decide.{ℕ_discrete}
+use Rattle.cell_table.specs.Sorted.{Each, Among, insert_by}
+use Rattle.cell_table.specs.Cells.{has}
+use Rattle.cell_table.specs.Rule.{cells_of, without}
+use Rattle.cell_table.specs.Steps.{cell_key, kept_in}
 use Rattle.cell_table.proofs.Histories.{bool_cases}
-use Rattle.cell_table.proofs.Sorted.{each_map}
 
 pub has_first : (c d : ℕ) (ds : List ℕ) → d ≡ c → has c (d ∷ ds) ≡ true
 has_first c d ds e = ap (λ (b : Bool). cond b true (has c ds)) (eq-eqb d c e)

@@ -1,11 +1,11 @@
 -- The held cells at run time are those of the view.
-use Rattle.std.proofs.Common.{◌≡◌, ◌≢◌, ℕ, zero, suc, ◌+◌, ◌-◌, ◌<◌, ◌≤◌, Bool, true, false, cond, eqb, ltb, List, [], ◌∷◌, ◌++◌, ◌⊎◌, length, take, drop, get_or, set, inl, inr, ⊎_elim, sym, refl, ap, ◌∙◌, subst, arith, eq-eqb, ne_eqb}
+use Rattle.std.proofs.Common.{◌≡◌, ◌≢◌, ℕ, zero, suc, ◌<◌, ◌≤◌, Bool, true, false, cond, eqb, ltb, List, [], ◌∷◌, ◌++◌, ◌⊎◌, length, take, drop, get_or, set, inl, inr, ⊎_elim, sym, refl, ap, ◌∙◌, subst, arith, eq-eqb, ne_eqb}
 use mathlib.Core.Logic.{dite}
-use native.Mathlib.Decide.{ℕ_discrete, dec_lt}
+use native.Mathlib.Decide.{ℕ_discrete}
 use Rattle.std.proofs.lemmas.Bool.Decides.{leb_tells}
 use Rattle.std.proofs.lemmas.Bool.{lt-leb, le-leb}
-use Rattle.cell_table.specs.Sorted.{Each, Among, insert_by, IsAscendingBy}
-use Rattle.cell_table.specs.Cells.{has, writes_to}
+use Rattle.cell_table.specs.Sorted.{Each, insert_by, IsAscendingBy}
+use Rattle.cell_table.specs.Cells.{has}
 use Rattle.cell_table.specs.declared.view.Stage.{Stage}
 use Rattle.cell_table.specs.declared.view.Stage.TheVariants.{Open, Drawn, Decided}
 use Rattle.cell_table.specs.declared.view.Record.{Record}
@@ -14,7 +14,7 @@ use Rattle.cell_table.specs.Rule.{cells_of, without}
 use Rattle.cell_table.specs.Steps.{cell_key, kept_in, more_stored}
 use Rattle.cell_table.specs.Seats.{pairs_of, held_key, flag_in, mark, without_held, IsPoint, FitsFlags, is_stored}
 use Rattle.cell_table.proofs.Histories.{bool_cases}
-use Rattle.cell_table.proofs.Sorted.{each_map, each_insert, insert_ascends}
+use Rattle.cell_table.proofs.Sorted.{each_map}
 
 pub pairs_insert : (h : HeldCell) (hs : List HeldCell) → pairs_of (insert_by held_key h hs) ≡ insert_by cell_key (h.cell, h.version) (pairs_of hs)
 pairs_insert h [] = refl

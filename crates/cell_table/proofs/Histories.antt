@@ -1,10 +1,10 @@
 -- What a change of one version does to a history.
-use Rattle.std.proofs.Common.{◌≡◌, ◌≢◌, ℕ, zero, suc, ◌+◌, ◌-◌, ◌<◌, ◌≤◌, Bool, true, false, cond, eqb, List, [], ◌∷◌, ◌⊎◌, length, get_or, set, inl, inr, ⊎_elim, sym, refl, ap, ◌∙◌, subst, arith, eq-eqb, ne_eqb}
+use Rattle.std.proofs.Common.{◌≡◌, ◌≢◌, ℕ, zero, suc, ◌<◌, ◌≤◌, Bool, true, false, cond, eqb, List, [], ◌∷◌, ◌⊎◌, inl, inr, ⊎_elim, sym, refl, ap, ◌∙◌, subst, arith, eq-eqb, ne_eqb}
 use mathlib.Core.Logic.{dite}
 use native.Mathlib.Decide.{ℕ_discrete}
-use Rattle.cell_table.specs.Cells.{after, writes_to, written, has}
+use Rattle.cell_table.specs.Cells.{writes_to, written}
 use Rattle.cell_table.specs.declared.view.Record.{Record}
-use Rattle.cell_table.specs.History.{Outcome, unused, pending, decided, upd, touches, left_in, effect, cells_at, value_at, version_at, noted, records_by, Unheld, IsVersion, IsValue, IsNewest, Stands}
+use Rattle.cell_table.specs.History.{Outcome, unused, pending, decided, upd, touches, left_in, effect, cells_at, value_at, version_at, noted, records_by}
 
 pub bool_cases : (b : Bool) → (b ≡ true) ⊎ (b ≡ false)
 bool_cases true = inl refl

@@ -1,32 +1,15 @@
 -- What follows from the legal history that a view fits.
-use Rattle.std.proofs.Common.{◌≡◌, ◌≢◌, ℕ, zero, suc, ◌+◌, ◌-◌, ◌*◌, ◌/◌, ◌%◌, ◌^◌, ◌<◌, ◌≤◌, Bool, true, false, cond, eqb, ltb, leb, List, [], ◌∷◌, ◌++◌, ◌⊎◌, length, get_or, set, inl, inr, ⊎_elim, sym, refl, ap, ◌∙◌, subst, arith, eq-eqb, ne_eqb, length-set, get_or-set_other, get_or-set_same}
+use Rattle.std.proofs.Common.{◌≡◌, ℕ, zero, suc, ◌-◌, ◌<◌, Bool, cond, eqb, List, [], ◌∷◌, length, get_or, set, sym, refl, ap, ◌∙◌, subst, arith, eq-eqb, ne_eqb, length-set, get_or-set_other, get_or-set_same}
 use mathlib.Core.Logic.{dite}
-use mathlib.Core.Option.{some, none}
-use native.Mathlib.Decide.{ℕ_discrete, dec_lt, dec_le}
-use lib.ListN.{get_elem?}
-use lib.Seq.{set-get_or}
-use prog.Atomic.{either}
-use Rattle.std.proofs.lemmas.Bool.{le-leb, lt-leb}
-use Rattle.atomic_table.specs.Table.{State, Me, Act, step, keeps, stepped, Allows}
-use Rattle.atomic_table.proofs.Lists.{exchanged}
-use Rattle.cell_table.specs.Sorted.{Each, Among, insert_by, merge_by, IsAscendingBy}
-use Rattle.cell_table.specs.Cells.{writes_to, written, has, Leaves}
-use Rattle.cell_table.specs.History.{Outcome, unused, pending, decided, upd, touches, left_in, noted, value_at, version_at, records_by, Unheld, IsVersion, IsValue, IsNewest, Stands}
+use native.Mathlib.Decide.{ℕ_discrete}
+use Rattle.cell_table.specs.Cells.{written}
+use Rattle.cell_table.specs.History.{Outcome, unused, pending, decided, left_in, value_at}
 use Rattle.cell_table.specs.declared.view.Record.{Record}
-use Rattle.cell_table.specs.declared.view.Book.{Book}
 use Rattle.cell_table.specs.declared.view.View.{View}
-use Rattle.cell_table.specs.declared.view.Stage.{Stage}
-use Rattle.cell_table.specs.declared.view.Stage.TheVariants.{Open, Drawn, Decided}
-use Rattle.cell_table.specs.declared.view.OpenRead.{OpenRead}
-use Rattle.cell_table.specs.declared.view.OpenRead.TheVariants.{NoRead, LockRead, ValueRead}
-use Rattle.cell_table.specs.declared.view.Event.TheVariants.{ClockLoaded, LockLoaded, ValueLoaded, LockExchanged, VersionDrawn, ValueStored, LockStored, SeatMoved}
-use Rattle.cell_table.specs.Rule.{clock_of, lock_of, word_of, cells_of, without, actor, callers_of, newest, value_now, IsClean, IsUnstored, IsSettled, FitsStage, FitsRead, FitsEvent, Fits, IsAscending, draws_left, IsRecord, Rule}
-use Rattle.cell_table.specs.Steps.{Triples, cell_key, caller_key, add_validation, validate_all, validate_open, add_read, add_kept, add_held, next_read, after_release, more_stored, kept_in, due, IsStoredOrUndecided, MayStore, MayDecide, AllHeld, clocked, free_look, held_look, looked, valued, taken, missed, drawn, first_put, next_put, given, enter, Observes, IsWord}
+use Rattle.cell_table.specs.Rule.{IsRecord}
+use Rattle.cell_table.specs.Steps.{Observes}
 use Rattle.cell_table.specs.Legal.{LegalNow}
-use Rattle.cell_table.specs.Told.{clock_told, lock_told, value_told, take_told, draw_told, give_told, first_told, next_told}
-use Rattle.cell_table.proofs.Histories.{bool_cases, upd_same, upd_other, version_le, version_below, version_aside, value_aside, stays, newer, records_aside, records_more, value_of_version}
-use Rattle.cell_table.proofs.Sorted.{each_map, each_both, each_append, each_among, each_insert, insert_ascends, each_merge, merge_ascends}
-use Rattle.std.proofs.Common.{Some}
+use Rattle.cell_table.proofs.Sorted.{each_map}
 use Rattle.cell_table.specs.Cells.{after, AllHold}
 use Rattle.cell_table.specs.History.{effect, cells_at}
 use Rattle.cell_table.proofs.ValueStore.{observes_stands}

@@ -1,8 +1,7 @@
 -- The books at run time are those of the view.
-use Rattle.std.proofs.Common.{◌≡◌, ◌≢◌, ℕ, zero, suc, ◌+◌, ◌-◌, ◌<◌, ◌≤◌, Bool, true, false, cond, ltb, List, [], ◌∷◌, ◌++◌, ◌⊎◌, length, take, drop, get_or, set, inl, inr, ⊎_elim, sym, refl, ap, ◌∙◌, subst, arith, vec_len, vec_capacity}
+use Rattle.std.proofs.Common.{◌≡◌, ℕ, zero, suc, ◌+◌, ◌-◌, ◌<◌, Bool, cond, ltb, List, [], ◌∷◌, ◌++◌, length, take, drop, get_or, set, ⊎_elim, sym, refl, ap, ◌∙◌, subst, arith, vec_len, vec_capacity}
 use Rattle.std.proofs.lemmas.Bool.{lt-leb, le-leb}
-use Rattle.cell_table.specs.Sorted.{Each, insert_by, merge_by, IsAscendingBy}
-use Rattle.cell_table.specs.declared.view.Record.{Record}
+use Rattle.cell_table.specs.Sorted.{insert_by, merge_by}
 use Rattle.cell_table.specs.declared.view.Book.{Book}
 use Rattle.cell_table.specs.declared.view.Noted.{Noted}
 use Rattle.cell_table.specs.declared.view.NotedBook.{NotedBook}

@@ -1,33 +1,16 @@
 -- A load of a lock word keeps the rule.
-use Rattle.std.proofs.Common.{◌≡◌, ◌≢◌, ℕ, zero, suc, ◌+◌, ◌-◌, ◌*◌, ◌/◌, ◌%◌, ◌^◌, ◌<◌, ◌≤◌, Bool, true, false, cond, eqb, ltb, leb, List, [], ◌∷◌, ◌++◌, ◌⊎◌, length, get_or, set, inl, inr, ⊎_elim, sym, refl, ap, ◌∙◌, subst, arith, eq-eqb, ne_eqb, length-set, get_or-set_other, get_or-set_same}
+use Rattle.std.proofs.Common.{◌≡◌, ◌≢◌, ℕ, ◌+◌, ◌-◌, ◌*◌, ◌/◌, ◌%◌, ◌<◌, ◌≤◌, Bool, cond, List, length, ⊎_elim, sym, refl, ap, subst, arith, eq-eqb, ne_eqb}
 use mathlib.Core.Logic.{dite}
 use mathlib.Core.Option.{some, none}
-use native.Mathlib.Decide.{ℕ_discrete, dec_lt, dec_le}
+use native.Mathlib.Decide.{ℕ_discrete}
 use lib.ListN.{get_elem?}
-use lib.Seq.{set-get_or}
-use prog.Atomic.{either}
-use Rattle.std.proofs.lemmas.Bool.{le-leb, lt-leb}
-use Rattle.atomic_table.specs.Table.{State, Me, Act, step, keeps, stepped, Allows}
-use Rattle.atomic_table.proofs.Lists.{exchanged}
-use Rattle.cell_table.specs.Sorted.{Each, Among, insert_by, merge_by, IsAscendingBy}
-use Rattle.cell_table.specs.Cells.{writes_to, written, has, Leaves}
-use Rattle.cell_table.specs.History.{Outcome, unused, pending, decided, upd, touches, left_in, noted, value_at, version_at, records_by, Unheld, IsVersion, IsValue, IsNewest, Stands}
-use Rattle.cell_table.specs.declared.view.Record.{Record}
-use Rattle.cell_table.specs.declared.view.Book.{Book}
+use Rattle.atomic_table.specs.Table.{State, Me, step, keeps, Allows}
+use Rattle.cell_table.specs.History.{IsVersion}
 use Rattle.cell_table.specs.declared.view.View.{View}
-use Rattle.cell_table.specs.declared.view.Stage.{Stage}
-use Rattle.cell_table.specs.declared.view.Stage.TheVariants.{Open, Drawn, Decided}
-use Rattle.cell_table.specs.declared.view.OpenRead.{OpenRead}
-use Rattle.cell_table.specs.declared.view.OpenRead.TheVariants.{NoRead, LockRead, ValueRead}
-use Rattle.cell_table.specs.declared.view.Event.TheVariants.{ClockLoaded, LockLoaded, ValueLoaded, LockExchanged, VersionDrawn, ValueStored, LockStored, SeatMoved}
-use Rattle.cell_table.specs.Rule.{clock_of, lock_of, word_of, cells_of, without, actor, callers_of, newest, value_now, IsClean, IsUnstored, IsSettled, FitsStage, FitsRead, FitsEvent, Fits, IsAscending, draws_left, IsRecord, Rule}
-use Rattle.cell_table.specs.Steps.{Triples, cell_key, caller_key, add_validation, validate_all, validate_open, add_read, add_kept, add_held, next_read, after_release, more_stored, kept_in, due, IsStoredOrUndecided, MayStore, MayDecide, AllHeld, clocked, free_look, held_look, looked, valued, taken, missed, drawn, first_put, next_put, given, enter, Observes, IsWord}
-use Rattle.cell_table.specs.Legal.{LegalNow}
-use Rattle.cell_table.specs.Told.{clock_told, lock_told, value_told, take_told, draw_told, give_told, first_told, next_told}
-use Rattle.cell_table.proofs.Histories.{bool_cases, version_le, stays}
-use Rattle.cell_table.proofs.Sorted.{each_map, each_both, each_among}
-use Rattle.cell_table.proofs.HeldCells.{each_has, has_first, has_later}
-use Rattle.cell_table.proofs.Views.{draws_set, draw_bound, acts, legal, unmoved, clean, low, version, validated, read_added, word_is, held_newest}
+use Rattle.cell_table.specs.Rule.{clock_of, lock_of, Fits, Rule}
+use Rattle.cell_table.specs.Steps.{free_look, held_look, looked, IsWord}
+use Rattle.cell_table.specs.Told.{lock_told}
+use Rattle.cell_table.proofs.Views.{draw_bound, legal, unmoved, clean, low, version, validated, read_added, word_is}
 
 module _ {M D : Type 0} (lawful : M → List ℕ → Type 0) (explains : M → List (ℕ × ℕ) → List (ℕ × ℕ) → List D → Type 0) (m : M) (opening : List ℕ) (total : ℕ) where
   abbrev V : Type 0

@@ -1,14 +1,12 @@
 -- What a step keeps of a pass.
-use Rattle.std.proofs.Common.{◌≡◌, ◌≢◌, ℕ, zero, suc, ◌+◌, ◌-◌, ◌*◌, ◌/◌, ◌%◌, ◌<◌, ◌≤◌, Bool, true, false, cond, eqb, leb, List, [], ◌∷◌, ◌++◌, ◌⊎◌, length, inl, inr, ⊎_elim, sym, refl, ap, ◌∙◌, subst, arith, eq-eqb, ne_eqb, Some, None, Option}
+use Rattle.std.proofs.Common.{◌≡◌, ◌≢◌, ℕ, ◌+◌, ◌-◌, ◌*◌, ◌/◌, ◌%◌, ◌<◌, ◌≤◌, Bool, cond, eqb, leb, List, [], ◌∷◌, length, inl, inr, ⊎_elim, sym, refl, ap, ◌∙◌, subst, arith, eq-eqb, ne_eqb, Some, None, Option}
 use mathlib.Core.Logic.{dite}
 use native.Mathlib.Decide.{ℕ_discrete}
 use Rattle.std.proofs.lemmas.Bool.{le-leb}
 use Rattle.atomic_table.specs.Seated.{TableId}
-use Rattle.cell_table.specs.Sorted.{Each, Among, insert_by, IsAscendingBy}
-use Rattle.cell_table.specs.Cells.{writes_to, has}
+use Rattle.cell_table.specs.Sorted.{Each, Among}
 use Rattle.cell_table.specs.declared.view.Record.{Record}
 use Rattle.cell_table.specs.declared.view.Book.{Book}
-use Rattle.cell_table.specs.declared.view.Noted.{Noted}
 use Rattle.cell_table.specs.declared.view.NotedBook.{NotedBook}
 use Rattle.cell_table.specs.declared.view.View.{View}
 use Rattle.cell_table.specs.declared.view.Stage.{Stage}
@@ -16,11 +14,10 @@ use Rattle.cell_table.specs.declared.view.Stage.TheVariants.{Open, Drawn, Decide
 use Rattle.cell_table.specs.declared.view.OpenRead.{OpenRead}
 use Rattle.cell_table.specs.declared.view.OpenRead.TheVariants.{NoRead, LockRead, ValueRead}
 use Rattle.cell_table.specs.declared.entry.HeldCell.{HeldCell}
-use Rattle.cell_table.specs.Rule.{cells_of, without}
-use Rattle.cell_table.specs.Steps.{Triples, cell_key, add_validation, validate_all, validate_open, add_read, add_kept, add_held, next_read, clocked, free_look, held_look, looked, valued, taken, missed, drawn, first_put, next_put, given, Observes, Reads, Validated, HeldStand, Grows, MayDecide, IsUndecided, IsWord}
+use Rattle.cell_table.specs.Steps.{Triples, add_validation, validate_all, validate_open, add_read, add_kept, add_held, clocked, free_look, held_look, looked, valued, taken, missed, drawn, first_put, next_put, given, Observes, Reads, Validated, HeldStand, Grows, MayDecide, IsWord}
 use Rattle.cell_table.specs.Legal.{LegalNow}
-use Rattle.cell_table.specs.Pass.{PassState, TableState, trail_of}
-use Rattle.cell_table.specs.IsPass.{IsPass, IsReader, IsPlanned, AreWritten, writer_books}
+use Rattle.cell_table.specs.Pass.{PassState, TableState}
+use Rattle.cell_table.specs.IsPass.{IsPass, IsReader, IsPlanned, AreWritten}
 use Rattle.cell_table.specs.Seats.{Tied}
 use Rattle.cell_table.proofs.Histories.{bool_cases}
 use Rattle.cell_table.proofs.Sorted.{each_map}

@@ -1,36 +1,24 @@
 -- A split and a join of seats keep the rule.
-use Rattle.std.proofs.Common.{◌≡◌, ◌≢◌, ℕ, zero, suc, ◌+◌, ◌-◌, ◌*◌, ◌/◌, ◌%◌, ◌^◌, ◌<◌, ◌≤◌, Bool, true, false, cond, eqb, ltb, leb, List, [], ◌∷◌, ◌++◌, ◌⊎◌, length, get_or, set, inl, inr, ⊎_elim, sym, refl, ap, ◌∙◌, subst, arith, eq-eqb, ne_eqb, length-set, get_or-set_other, get_or-set_same}
+use Rattle.std.proofs.Common.{◌≡◌, ◌≢◌, ℕ, zero, suc, ◌+◌, ◌*◌, ◌<◌, ◌≤◌, Bool, true, false, cond, eqb, List, [], ◌∷◌, ◌++◌, ◌⊎◌, length, set, inl, inr, ⊎_elim, sym, refl, ap, ◌∙◌, subst, arith, eq-eqb, ne_eqb, length-set}
 use mathlib.Core.Logic.{dite}
-use mathlib.Core.Option.{some, none}
-use native.Mathlib.Decide.{ℕ_discrete, dec_lt, dec_le}
+use mathlib.Core.Option.{some}
+use native.Mathlib.Decide.{ℕ_discrete}
 use lib.ListN.{get_elem?}
-use lib.Seq.{set-get_or}
-use prog.Atomic.{either}
-use Rattle.std.proofs.lemmas.Bool.{le-leb, lt-leb}
-use Rattle.atomic_table.specs.Table.{State, Me, Act, step, keeps, stepped, Allows}
-use Rattle.atomic_table.proofs.Lists.{exchanged}
-use Rattle.cell_table.specs.Sorted.{Each, Among, insert_by, merge_by, IsAscendingBy}
-use Rattle.cell_table.specs.Cells.{writes_to, written, has, Leaves}
-use Rattle.cell_table.specs.History.{Outcome, unused, pending, decided, upd, touches, left_in, noted, value_at, version_at, records_by, Unheld, IsVersion, IsValue, IsNewest, Stands}
-use Rattle.cell_table.specs.declared.view.Record.{Record}
+use Rattle.atomic_table.specs.Table.{State}
+use Rattle.cell_table.specs.Sorted.{Each}
+use Rattle.cell_table.specs.Cells.{has}
+use Rattle.cell_table.specs.History.{Outcome, pending}
 use Rattle.cell_table.specs.declared.view.Book.{Book}
 use Rattle.cell_table.specs.declared.view.View.{View}
-use Rattle.cell_table.specs.declared.view.Stage.{Stage}
-use Rattle.cell_table.specs.declared.view.Stage.TheVariants.{Open, Drawn, Decided}
-use Rattle.cell_table.specs.declared.view.OpenRead.{OpenRead}
-use Rattle.cell_table.specs.declared.view.OpenRead.TheVariants.{NoRead, LockRead, ValueRead}
-use Rattle.cell_table.specs.declared.view.Event.TheVariants.{ClockLoaded, LockLoaded, ValueLoaded, LockExchanged, VersionDrawn, ValueStored, LockStored, SeatMoved}
-use Rattle.cell_table.specs.Rule.{clock_of, lock_of, word_of, cells_of, without, actor, callers_of, newest, value_now, IsClean, IsUnstored, IsSettled, FitsStage, FitsRead, FitsEvent, Fits, IsAscending, draws_left, IsRecord, Rule}
-use Rattle.cell_table.specs.Steps.{Triples, cell_key, caller_key, add_validation, validate_all, validate_open, add_read, add_kept, add_held, next_read, after_release, more_stored, kept_in, due, IsStoredOrUndecided, MayStore, MayDecide, AllHeld, clocked, free_look, held_look, looked, valued, taken, missed, drawn, first_put, next_put, given, enter, Observes, IsWord}
-use Rattle.cell_table.specs.Legal.{LegalNow}
-use Rattle.cell_table.specs.Told.{clock_told, lock_told, value_told, take_told, draw_told, give_told, first_told, next_told}
-use Rattle.cell_table.proofs.Histories.{bool_cases, upd_same, upd_other, version_le, version_below, version_aside, value_aside, stays, newer, records_aside, records_more, value_of_version}
-use Rattle.cell_table.proofs.Sorted.{each_map, each_both, each_append, each_among, each_insert, insert_ascends, each_merge, merge_ascends}
-use Rattle.cell_table.proofs.HeldCells.{each_has, has_first, has_later, each_without, has_without, still_has, has_insert, has_inserted, kept_among}
-use Rattle.cell_table.proofs.Guarantee.{Guarantee, unstored_stays, seats_stay, other_fits, values_stay, validations_stay, trail_stays, read_stays}
-use Rattle.cell_table.proofs.Guarantees.{at_upd, guarantee_words, guarantee_draw, guarantee_release, guarantee_decide, true_false}
-use Rattle.cell_table.proofs.Views.{draws_set, acts, version_is, legal, unmoved, clean, low, version, validated, read_added, word_is, held_newest}
-use Rattle.std.proofs.Common.{max, Some, length-append}
+use Rattle.cell_table.specs.declared.view.Stage.TheVariants.{Open, Drawn}
+use Rattle.cell_table.specs.Rule.{lock_of, cells_of, actor, IsClean, FitsStage, Fits, IsAscending, draws_left, Rule}
+use Rattle.cell_table.specs.Steps.{caller_key}
+use Rattle.cell_table.proofs.Histories.{bool_cases}
+use Rattle.cell_table.proofs.Sorted.{each_map, each_both, each_append, each_merge, merge_ascends}
+use Rattle.cell_table.proofs.Guarantee.{seats_stay}
+use Rattle.cell_table.proofs.Guarantees.{true_false}
+use Rattle.cell_table.proofs.Views.{draws_set}
+use Rattle.std.proofs.Common.{length-append}
 use Rattle.atomic_table.specs.Table.{Splits, Joins}
 use Rattle.atomic_table.proofs.Lists.{at_set}
 use Rattle.cell_table.specs.Steps.{first_books, last_books, kept_part, new_part, both_parts, spent_part, IsIdle}

@@ -1,17 +1,16 @@
 -- A pass with every caller number finds each lock word free that is not its own, at a version of its own books.
-use Rattle.std.proofs.Common.{◌≡◌, ◌≢◌, ℕ, zero, suc, ◌+◌, ◌-◌, ◌*◌, ◌/◌, ◌%◌, ◌<◌, ◌≤◌, Bool, true, false, cond, eqb, List, [], ◌∷◌, ◌++◌, ◌⊎◌, length, inl, inr, ⊎_elim, sym, refl, ap, ◌∙◌, subst, arith, eq-eqb, ne_eqb, IsTrue}
+use Rattle.std.proofs.Common.{◌≡◌, ℕ, zero, suc, ◌*◌, ◌%◌, ◌<◌, ◌≤◌, Bool, true, false, cond, eqb, List, [], ◌∷◌, length, inl, inr, ⊎_elim, sym, refl, ap, ◌∙◌, subst, arith, eq-eqb, ne_eqb, IsTrue}
 use mathlib.Core.Logic.{dite}
-use native.Mathlib.Decide.{ℕ_discrete, dec_le}
+use native.Mathlib.Decide.{ℕ_discrete}
 use Rattle.cell_table.specs.Sorted.{Each, Among}
-use Rattle.cell_table.specs.Cells.{has, writes_to}
+use Rattle.cell_table.specs.Cells.{has}
 use Rattle.cell_table.specs.History.{Outcome, unused, pending, decided, touches, noted, records_by, IsVersion}
 use Rattle.cell_table.specs.declared.view.Record.{Record}
-use Rattle.cell_table.specs.declared.view.Book.{Book}
 use Rattle.cell_table.specs.declared.view.Noted.{Noted}
 use Rattle.cell_table.specs.declared.view.NotedBook.{NotedBook}
 use Rattle.cell_table.specs.declared.view.View.{View}
 use Rattle.cell_table.specs.declared.view.Event.TheVariants.{LockLoaded}
-use Rattle.cell_table.specs.Rule.{callers_of, cells_of, actor, FitsEvent}
+use Rattle.cell_table.specs.Rule.{callers_of, cells_of, FitsEvent}
 use Rattle.cell_table.specs.Steps.{looked, IsWord}
 use Rattle.cell_table.specs.Legal.{LegalNow}
 use Rattle.cell_table.specs.Pass.{PassState, IsSole}

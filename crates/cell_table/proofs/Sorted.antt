@@ -1,5 +1,5 @@
 -- Lists in ascending order.
-use Rattle.std.proofs.Common.{◌≡◌, ◌≢◌, ℕ, zero, suc, ◌+◌, ◌<◌, ◌≤◌, Bool, true, false, cond, eqb, ltb, List, [], ◌∷◌, ◌++◌, ◌⊎◌, inl, inr, ⊎_elim, sym, refl, ap, ◌∙◌, subst, arith}
+use Rattle.std.proofs.Common.{◌≢◌, ℕ, suc, ◌<◌, Bool, cond, ltb, List, [], ◌∷◌, ◌++◌, inl, inr, ⊎_elim, sym, subst, arith}
 use Rattle.std.proofs.lemmas.Bool.Decides.{leb_tells}
 use Rattle.cell_table.specs.Sorted.{Each, Among, insert_by, merge_by, IsAscendingBy}
 use Rattle.cell_table.proofs.Histories.{bool_cases}

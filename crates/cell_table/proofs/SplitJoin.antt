@@ -1,24 +1,21 @@
 -- What a split and a join make of passes.
-use Rattle.std.proofs.Common.{◌≡◌, ◌≢◌, ℕ, zero, suc, ◌+◌, ◌-◌, ◌*◌, ◌/◌, ◌<◌, ◌≤◌, Bool, true, false, cond, List, [], ◌∷◌, ◌++◌, ◌⊎◌, length, take, drop, max, inl, inr, ⊎_elim, sym, refl, ap, ◌∙◌, subst, arith, Some, None, Option, mul-le-mul_right, div-add-mod', mul_comm, reverse}
+use Rattle.std.proofs.Common.{◌≡◌, ℕ, zero, suc, ◌+◌, ◌-◌, ◌*◌, ◌/◌, ◌<◌, ◌≤◌, List, [], ◌∷◌, ◌++◌, length, take, drop, max, sym, refl, ap, ◌∙◌, subst, arith, Some, None, mul-le-mul_right, div-add-mod', mul_comm, reverse}
 use mathlib.Core.List.{reverse-cons, reverse-append, append_assoc}
 use Rattle.atomic_table.specs.Seated.{TableId}
-use Rattle.cell_table.specs.Sorted.{Each, Among, merge_by, IsAscendingBy}
-use Rattle.cell_table.specs.declared.view.Record.{Record}
+use Rattle.cell_table.specs.Sorted.{Each, merge_by}
 use Rattle.cell_table.specs.declared.view.Book.{Book}
-use Rattle.cell_table.specs.declared.view.Noted.{Noted}
 use Rattle.cell_table.specs.declared.view.NotedBook.{NotedBook}
 use Rattle.cell_table.specs.declared.view.View.{View}
-use Rattle.cell_table.specs.declared.view.Stage.{Stage}
-use Rattle.cell_table.specs.declared.view.Stage.TheVariants.{Open, Drawn, Decided}
+use Rattle.cell_table.specs.declared.view.Stage.TheVariants.{Open, Drawn}
 use Rattle.cell_table.specs.declared.view.Event.TheVariants.{ClockLoaded, SeatMoved}
 use Rattle.cell_table.specs.declared.entry.HeldCell.{HeldCell}
-use Rattle.cell_table.specs.Steps.{caller_key, first_books, last_books, kept_part, new_part, both_parts, clocked, validate_open, Grows, IsIdle}
+use Rattle.cell_table.specs.Steps.{caller_key, first_books, last_books, kept_part, new_part, both_parts, clocked, Grows, IsIdle}
 use Rattle.cell_table.specs.Legal.{LegalNow}
 use Rattle.cell_table.specs.Pass.{PassState, TableState, IsPassOf, book_key, share, split_kept, split_new, joined}
-use Rattle.cell_table.specs.IsPass.{IsPass, IsReader, IsPlanned, AreWritten, PlacesFrom, writer_books}
+use Rattle.cell_table.specs.IsPass.{IsPass, IsPlanned}
 use Rattle.cell_table.specs.declared.entry.Ledger.{Ledger}
-use Rattle.cell_table.specs.Seats.{Tied, FitsFlags, FitsDrawn, reserved_in}
-use Rattle.cell_table.proofs.Sorted.{each_map, each_append, each_merge, among_left, among_right}
+use Rattle.cell_table.specs.Seats.{Tied, reserved_in}
+use Rattle.cell_table.proofs.Sorted.{each_map, each_merge, among_left, among_right}
 use Rattle.cell_table.proofs.SeatMove.{first_each, last_each, first_order, last_order}
 use Rattle.cell_table.proofs.Ledgers.{writer_take, writer_drop, writer_merge, merge_length}
 use Rattle.cell_table.proofs.Passes.{readers_on, grows_clocked}

@@ -1,7 +1,7 @@
 -- What is true of every pass.
-use Rattle.std.specs.Prelude.{◌≡◌, ℕ, ◌-◌, ◌*◌, ◌<◌, ◌≤◌, Bool, true, false, cond, List, [], ◌∷◌, length, Some, None, Option}
+use Rattle.std.specs.Prelude.{◌≡◌, ℕ, ◌<◌, ◌≤◌, true, false, cond, List, [], ◌∷◌, length, Some, None, Option}
 use Rattle.cell_table.specs.Sorted.{Each}
-use Rattle.cell_table.specs.Cells.{has, writes_to, IsWrittenOnce}
+use Rattle.cell_table.specs.Cells.{writes_to}
 use Rattle.cell_table.specs.declared.view.Record.{Record}
 use Rattle.cell_table.specs.declared.view.Book.{Book}
 use Rattle.cell_table.specs.declared.view.Noted.{Noted}

@@ -3,8 +3,6 @@ use Rattle.std.specs.Prelude.{◌≡◌, ℕ, ◌*◌, ◌^◌, ◌<◌, ◌≤�
 use Rattle.cell_table.specs.Sorted.{Each}
 use Rattle.cell_table.specs.History.{Outcome, decided, records_by, IsValue, IsNewest}
 use Rattle.cell_table.specs.declared.view.Record.{Record}
-use Rattle.cell_table.specs.declared.view.Book.{Book}
-use Rattle.cell_table.specs.declared.view.Event.{Event}
 use Rattle.cell_table.specs.declared.view.View.{View}
 use Rattle.cell_table.specs.Rule.{IsRecord, IsAscending, FitsEvent}
 

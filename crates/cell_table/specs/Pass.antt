@@ -1,17 +1,16 @@
 -- A table and a pass as contracts see them.
-use Rattle.std.specs.Prelude.{◌≡◌, ◌≢◌, ℕ, zero, suc, ◌+◌, ◌-◌, ◌*◌, ◌/◌, ◌<◌, ◌≤◌, Bool, true, false, cond, max, List, [], ◌∷◌, ◌++◌, map, length, take, drop, reverse, Some, None, Option}
+use Rattle.std.specs.Prelude.{◌≡◌, ℕ, zero, suc, ◌+◌, ◌-◌, ◌*◌, ◌/◌, Bool, true, false, max, List, [], ◌∷◌, ◌++◌, length, take, drop, reverse, Some, None, Option}
 use Rattle.atomic_table.specs.Seated.{TableId}
-use Rattle.cell_table.specs.Sorted.{Each, merge_by}
-use Rattle.cell_table.specs.Cells.{writes_to, has, Leaves}
+use Rattle.cell_table.specs.Sorted.{merge_by}
+use Rattle.cell_table.specs.Cells.{has, Leaves}
 use Rattle.cell_table.specs.declared.view.Record.{Record}
 use Rattle.cell_table.specs.declared.view.Event.{Event}
-use Rattle.cell_table.specs.declared.view.Noted.{Noted}
 use Rattle.cell_table.specs.declared.view.NotedBook.{NotedBook}
 use Rattle.cell_table.specs.declared.view.View.{View}
 use Rattle.cell_table.specs.declared.view.Stage.{Stage}
 use Rattle.cell_table.specs.declared.view.Stage.TheVariants.{Open, Drawn, Decided}
-use Rattle.cell_table.specs.Rule.{actor, callers_of, cells_of, without, first_view}
-use Rattle.cell_table.specs.Steps.{AllHeld, MayStore, first_put, next_put, given, due, IsIdle, kept_part, new_part, both_parts, clocked}
+use Rattle.cell_table.specs.Rule.{actor, cells_of, without, first_view}
+use Rattle.cell_table.specs.Steps.{AllHeld, MayStore, first_put, next_put, given, due, kept_part, new_part, both_parts, clocked}
 
 pub record TableState (M : Type 0) : Type 0 where
   -- which table it is

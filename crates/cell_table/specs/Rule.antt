@@ -1,13 +1,13 @@
 -- The rule that holds between any two steps.
 -- Word 0 is the version clock, word 2 c + 1 the lock word of the cell c, and word 2 c + 2 its value.
 -- A free lock word is twice a version, a held one is twice a caller number plus 1.
-use Rattle.std.specs.Prelude.{◌≡◌, ◌≢◌, ℕ, zero, suc, ◌+◌, ◌-◌, ◌*◌, ◌/◌, ◌%◌, ◌^◌, ◌<◌, ◌≤◌, Bool, true, false, cond, eqb, leb, ◌⊎◌, List, [], ◌∷◌, length, slice_index, Some}
+use Rattle.std.specs.Prelude.{◌≡◌, ◌≢◌, ℕ, zero, suc, ◌+◌, ◌-◌, ◌*◌, ◌/◌, ◌^◌, ◌<◌, ◌≤◌, true, false, cond, eqb, ◌⊎◌, List, [], ◌∷◌, length, slice_index, Some}
 use mathlib.Core.Option.{some}
 use lib.ListN.{get_elem?}
-use Rattle.atomic_table.specs.Table.{State, Me, Step}
+use Rattle.atomic_table.specs.Table.{State}
 use Rattle.cell_table.specs.Sorted.{Each, IsAscendingBy}
 use Rattle.cell_table.specs.Cells.{writes_to, has}
-use Rattle.cell_table.specs.History.{Outcome, unused, pending, decided, value_at, version_at, records_by, Unheld, IsVersion, IsValue, IsNewest, Stands}
+use Rattle.cell_table.specs.History.{Outcome, unused, pending, decided, value_at, version_at, records_by, IsVersion, IsValue, IsNewest, Stands}
 use Rattle.cell_table.specs.declared.view.Record.{Record}
 use Rattle.cell_table.specs.declared.view.Book.{Book}
 use Rattle.cell_table.specs.declared.view.Event.{Event}

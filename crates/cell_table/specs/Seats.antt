@@ -1,5 +1,5 @@
 -- How a pass is kept at run time.
-use Rattle.std.specs.Prelude.{◌≡◌, ℕ, suc, ◌-◌, ◌*◌, ◌^◌, ◌<◌, ◌≤◌, Bool, true, false, cond, eqb, List, [], ◌∷◌, map, length, slice_index_or, vec_len, vec_capacity, Some, None, Option}
+use Rattle.std.specs.Prelude.{◌≡◌, ℕ, suc, ◌-◌, ◌^◌, ◌<◌, ◌≤◌, Bool, true, false, cond, eqb, List, [], ◌∷◌, length, slice_index_or, vec_len, vec_capacity, Some, None, Option}
 use Rattle.cell_table.specs.Sorted.{Each, IsAscendingBy}
 use Rattle.cell_table.specs.Cells.{has}
 use Rattle.cell_table.specs.declared.view.Record.{Record}

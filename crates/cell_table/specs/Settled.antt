@@ -1,12 +1,9 @@
 -- What stands at the end, where one pass has every caller number.
-use Rattle.std.specs.Prelude.{◌≡◌, ℕ, ◌+◌, ◌-◌, ◌*◌, ◌<◌, ◌≤◌, true, false, List, [], ◌∷◌, length, slice_index, Some}
+use Rattle.std.specs.Prelude.{◌≡◌, ℕ, ◌-◌, ◌<◌, ◌≤◌, true, false, List, [], length, slice_index, Some}
 use Rattle.cell_table.specs.Sorted.{Each}
 use Rattle.cell_table.specs.Cells.{AllHold, has}
 use Rattle.cell_table.specs.History.{Outcome, decided, cells_at, version_at, records_by}
 use Rattle.cell_table.specs.declared.view.Record.{Record}
-use Rattle.cell_table.specs.declared.view.Noted.{Noted}
-use Rattle.cell_table.specs.declared.view.NotedBook.{NotedBook}
-use Rattle.cell_table.specs.declared.view.View.{View}
 use Rattle.cell_table.specs.Rule.{callers_of}
 use Rattle.cell_table.specs.Steps.{Observes}
 use Rattle.cell_table.specs.Pass.{PassState}

@@ -63,7 +63,11 @@ impl<M: Meaning> CellTable<M> {
         requires idle { IsIdle pass.view }
         ensures settled { Settled M.lawful M.explains pass result }
     {
-        let CellTable { words, meaning: _, callers: _ } = self;
+        let CellTable {
+            words,
+            meaning: _,
+            callers: _,
+        } = self;
         let Pass {
             seat,
             ledgers: _,

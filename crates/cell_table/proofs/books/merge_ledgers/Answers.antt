@@ -1,4 +1,4 @@
-use Rattle.std.proofs.Common.{rules, refl, arith, ap, sym, ◌∙◌, List}
+use Rattle.std.proofs.Common.{arith, ap, sym, ◌∙◌, List}
 use Rattle.cell_table.specs.Sorted.{merge_by}
 use Rattle.cell_table.specs.Seats.{ledger_key}
 use Rattle.cell_table.specs.declared.entry.Ledger.{Ledger}

@@ -1,4 +1,4 @@
-use Rattle.std.proofs.Common.{rules, ltb, arith, ◌≡◌}
+use Rattle.std.proofs.Common.{rules, ltb, arith}
 use Rattle.std.proofs.lemmas.List.Sorted.{IsPartitionPoint-from_clause}
 use Rattle.cell_table.specs.declared.entry.HeldCell.{HeldCell}
 use Rattle.cell_table.proofs.HeldList.{parted, below, not_below}

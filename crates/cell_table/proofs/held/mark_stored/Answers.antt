@@ -1,5 +1,4 @@
-use Rattle.std.proofs.Common.{rules, arith, sym, ◌∙◌, ap, refl}
-use Rattle.cell_table.specs.declared.entry.HeldCell.{HeldCell}
+use Rattle.std.proofs.Common.{rules, arith, refl}
 use Rattle.cell_table.proofs.HeldList.{found_at, marked_at}
 use Rattle.cell_table.proofs.held.mark_stored.Goals as goal
 

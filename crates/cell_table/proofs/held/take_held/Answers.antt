@@ -1,4 +1,4 @@
-use Rattle.std.proofs.Common.{rules, arith, sym, ◌∙◌, ap}
+use Rattle.std.proofs.Common.{arith, ◌∙◌, ap}
 use Rattle.cell_table.specs.declared.entry.HeldCell.{HeldCell}
 use Rattle.cell_table.proofs.HeldList.{found_at}
 use Rattle.cell_table.proofs.held.take_held.Goals as goal

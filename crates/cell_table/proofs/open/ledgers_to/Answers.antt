@@ -1,4 +1,4 @@
-use Rattle.std.proofs.Common.{rules, arith, subst, sym, List, ◌≡◌, ◌+◌, ℕ, [], ◌∷◌, ◌++◌}
+use Rattle.std.proofs.Common.{arith, subst, sym, List, ◌+◌}
 use Rattle.cell_table.specs.Seats.{AreFresh}
 use Rattle.cell_table.specs.declared.entry.Ledger.{Ledger}
 use Rattle.cell_table.proofs.Ledgers.{fresh_more}

@@ -1,4 +1,4 @@
-use Rattle.std.proofs.Common.{rules, arith}
+use Rattle.std.proofs.Common.{arith}
 use Rattle.std.proofs.lemmas.Grind.{common_steps}
 use Rattle.cell_table.proofs.Opening.{words_more}
 use Rattle.cell_table.proofs.open.words_for.Goals as goal

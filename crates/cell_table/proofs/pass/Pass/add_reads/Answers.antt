@@ -1,7 +1,7 @@
-use Rattle.std.proofs.Common.{rules, refl, arith, ap, sym, ◌∙◌, [], List, ℕ, false}
+use Rattle.std.proofs.Common.{refl, arith, ap, ◌∙◌, [], List, ℕ, false}
 use Rattle.cell_table.specs.Pass.{note}
 use Rattle.cell_table.specs.Seats.{noted_books}
-use Rattle.cell_table.proofs.Attempts.{read_pass, idle_now, room_now, stands_now, explained_now, read_of}
+use Rattle.cell_table.proofs.Attempts.{read_pass, idle_now, stands_now, explained_now, read_of}
 use Rattle.cell_table.proofs.pass.Pass.add_reads.Goals as goal
 
 pub invariant_of-self : goal.invariant_of-self

@@ -1,4 +1,4 @@
-use Rattle.std.proofs.Common.{arith, ap, length, ◌∙◌, sym, ◌≡◌, [], get_or}
+use Rattle.std.proofs.Common.{arith, ap, length, ◌∙◌, [], get_or}
 use Rattle.cell_table.specs.Pass.{PassState}
 use Rattle.cell_table.specs.Seats.{noted_all}
 use Rattle.cell_table.proofs.Ledgers.{noted_length, noted_at}

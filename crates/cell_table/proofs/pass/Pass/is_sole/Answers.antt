@@ -1,4 +1,4 @@
-use Rattle.std.proofs.Common.{arith, ap, length, ◌∙◌, sym, ◌≡◌}
+use Rattle.std.proofs.Common.{arith, ap, length, ◌∙◌, sym}
 use Rattle.cell_table.specs.Pass.{PassState, TableState}
 use Rattle.cell_table.proofs.Ledgers.{noted_length}
 use Rattle.cell_table.proofs.Sole.{sole_eq}

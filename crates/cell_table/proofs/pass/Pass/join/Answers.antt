@@ -1,9 +1,7 @@
-use Rattle.std.proofs.Common.{arith, ap, sym, ◌∙◌, refl, List, ℕ, length, ◌≡◌, max}
+use Rattle.std.proofs.Common.{arith, ap, ◌∙◌, length}
 use Rattle.cell_table.specs.Pass.{PassState}
-use Rattle.cell_table.specs.Seats.{noted_books, reserved_in}
-use Rattle.cell_table.specs.declared.entry.Ledger.{Ledger}
+use Rattle.cell_table.specs.Seats.{noted_books}
 use Rattle.cell_table.proofs.Ledgers.{noted_length, noted_merge}
-use Rattle.cell_table.proofs.Passes.{same_table}
 use Rattle.cell_table.proofs.SplitJoin.{whole_pass, whole_tied, joined_of, joined_trail, idle_was, same_meaning}
 use Rattle.cell_table.proofs.pass.Pass.join.Goals as goal
 

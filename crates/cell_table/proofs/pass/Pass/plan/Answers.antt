@@ -1,4 +1,3 @@
-use Rattle.std.proofs.Common.{rules, refl, arith, ap}
 use Rattle.cell_table.proofs.Attempts.{planned_pass, plan_now, room_now}
 use Rattle.cell_table.proofs.pass.Pass.plan.Goals as goal
 

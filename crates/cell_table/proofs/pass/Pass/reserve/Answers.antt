@@ -1,4 +1,4 @@
-use Rattle.std.proofs.Common.{rules, refl, arith, ap, sym, ◌∙◌}
+use Rattle.std.proofs.Common.{arith}
 use Rattle.cell_table.proofs.Attempts.{roomy_pass}
 use Rattle.cell_table.proofs.pass.Pass.reserve.Goals as goal
 

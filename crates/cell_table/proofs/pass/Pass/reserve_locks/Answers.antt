@@ -1,4 +1,4 @@
-use Rattle.std.proofs.Common.{rules, refl, arith, ap, sym, ◌∙◌, List, subst}
+use Rattle.std.proofs.Common.{refl, arith, sym, List, subst}
 use Rattle.cell_table.specs.declared.entry.HeldCell.{HeldCell}
 use Rattle.cell_table.specs.Seats.{Tied}
 use Rattle.cell_table.proofs.Attempts.{roomy_pass}

@@ -1,4 +1,3 @@
-use Rattle.std.proofs.Common.{rules, refl, arith, ap}
 use Rattle.cell_table.proofs.Attempts.{saw_pass, idle_now}
 use Rattle.cell_table.proofs.pass.Pass.saw.Goals as goal
 

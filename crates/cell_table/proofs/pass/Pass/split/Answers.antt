@@ -1,14 +1,11 @@
-use Rattle.std.proofs.Common.{arith, ap, sym, ◌∙◌, refl, List, ℕ, length, subst, ◌≡◌, ◌-◌, ◌*◌, ◌/◌, take, drop, [], ◌≤◌, Vec, Global, vec_capacity, vec_len}
-use Rattle.cell_table.specs.declared.view.View.{View}
+use Rattle.std.proofs.Common.{arith, ap, sym, ◌∙◌, List, length, subst, ◌≡◌, ◌-◌, [], ◌≤◌, Vec, Global, vec_capacity, vec_len}
 use Rattle.cell_table.specs.declared.view.Book.{Book}
 use Rattle.cell_table.specs.Pass.{PassState}
 use Rattle.cell_table.specs.Seats.{noted_books, reserved_in, plan_of, Tied}
 use Rattle.cell_table.specs.IsPass.{IsPass}
 use Rattle.cell_table.specs.declared.entry.Ledger.{Ledger}
-use Rattle.cell_table.specs.Steps.{IsIdle}
 use Rattle.cell_table.proofs.Ledgers.{noted_length, noted_take, noted_drop}
 use Rattle.cell_table.proofs.Sole.{books_length}
-use Rattle.cell_table.proofs.Attempts.{roomy_pass}
 use Rattle.cell_table.proofs.SplitJoin.{share_fits, kept_pass, new_pass, kept_tied, new_tied, kept_of, new_of, new_belongs, idle_was, kept_reserved, split_share}
 use Rattle.cell_table.proofs.pass.Pass.split.Goals as goal
 

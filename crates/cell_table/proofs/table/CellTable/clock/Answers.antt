@@ -1,4 +1,4 @@
-use Rattle.std.proofs.Common.{rules, arith, refl, ◌∙◌}
+use Rattle.std.proofs.Common.{arith, refl, ◌∙◌}
 use Rattle.cell_table.specs.Steps.{clocked}
 use Rattle.cell_table.proofs.ClockLoad.{clocks}
 use Rattle.cell_table.proofs.Passes.{grows_clocked, pass_by, tied_by, same_table, clock_held}

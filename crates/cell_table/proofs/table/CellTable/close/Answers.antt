@@ -1,4 +1,4 @@
-use Rattle.std.proofs.Common.{arith, ap, length, ◌∙◌, sym, ◌≡◌, refl, ◌*◌, ◌+◌}
+use Rattle.std.proofs.Common.{arith, ◌∙◌}
 use Rattle.cell_table.proofs.Closing.{closes_as, closed_wide}
 use Rattle.cell_table.proofs.table.CellTable.close.Goals as goal
 

@@ -1,6 +1,4 @@
-use Rattle.std.proofs.Common.{arith, ap, sym, ◌∙◌, List, ℕ}
-use Rattle.atomic_table.specs.Table.{Me}
-use Rattle.cell_table.specs.declared.view.View.{View}
+use Rattle.std.proofs.Common.{arith, ap, sym, ◌∙◌}
 use Rattle.cell_table.specs.Pass.{TableState}
 use Rattle.cell_table.proofs.SeatMove.{splits}
 use Rattle.cell_table.proofs.table.CellTable.cut.Goals as goal

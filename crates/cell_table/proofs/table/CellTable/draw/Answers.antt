@@ -1,7 +1,5 @@
-use Rattle.std.proofs.Common.{rules, arith, refl, ap, subst, ◌∙◌, sym, ◌≡◌, ◌<◌, ◌+◌, ℕ}
-use Rattle.cell_table.specs.declared.view.Stage.TheVariants.{Open}
+use Rattle.std.proofs.Common.{arith, ap, ◌∙◌, ◌+◌}
 use Rattle.cell_table.specs.Pass.{PassState}
-use Rattle.cell_table.specs.Steps.{drawn}
 use Rattle.cell_table.proofs.ClockAdd.{draws}
 use Rattle.cell_table.proofs.Passes.{same_table, draw_held, draw_above}
 use Rattle.cell_table.proofs.Attempts.{drawn_pass, drawn_tied}

@@ -1,4 +1,4 @@
-use Rattle.std.proofs.Common.{rules, arith, refl, ap, subst, ◌∙◌, sym, ◌≡◌, ◌≢◌, ◌<◌, ◌/◌, ◌*◌, ◌+◌, ◌-◌, ℕ, true, Bool, List}
+use Rattle.std.proofs.Common.{arith, ap, ◌∙◌, ◌≡◌, ◌*◌, ℕ}
 use Rattle.cell_table.specs.Steps.{given}
 use Rattle.cell_table.proofs.LockStore.{gives_word}
 use Rattle.cell_table.proofs.Passes.{same_table, cell_inside, at_lock}

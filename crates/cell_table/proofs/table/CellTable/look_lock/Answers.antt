@@ -1,4 +1,4 @@
-use Rattle.std.proofs.Common.{rules, arith, refl, ◌≡◌, ◌/◌, ◌*◌, ◌+◌, ◌-◌, ℕ, subst, ap, length, List, ◌∙◌, sym}
+use Rattle.std.proofs.Common.{arith, ◌≡◌, ◌∙◌}
 use Rattle.cell_table.specs.Steps.{looked, IsWord}
 use Rattle.cell_table.proofs.LockLoad.{looks}
 use Rattle.cell_table.proofs.Passes.{grows_looked, pass_by, tied_by, same_table, cell_inside, looked_first, looked_read, looked_still, looked_books, at_lock, look_of, look_word}
@@ -25,7 +25,6 @@ invariant_of-pass g c = let told = c.load.ensures.2 in
 
 pub returns-clause-view : goal.returns-clause-view
 returns-clause-view g c = look_of _ _ _ _ c.args.cell c.load.result c.pass.view_is c.load.ensures.0 (at_lock (λ z. c.load.new.seat.me.0 ≡ looked c.pass.inside.seat.me.0 z c.load.result) c.args.cell c.load.ensures.2.0)
-
 
 pub returns-clause-word : goal.returns-clause-word
 returns-clause-word g c = look_word _ _ c.args.cell c.load.result c.pass.view_is (at_lock (λ z. IsWord c.pass.inside.seat.me.0 z c.load.result) c.args.cell c.load.ensures.2.1)

@@ -1,4 +1,4 @@
-use Rattle.std.proofs.Common.{◌∙◌, rules, arith, refl, ◌≡◌, ◌/◌, ◌*◌, ◌+◌, ◌-◌, ℕ}
+use Rattle.std.proofs.Common.{◌∙◌, arith, refl, ◌≡◌}
 use Rattle.cell_table.specs.Steps.{valued}
 use Rattle.cell_table.proofs.ValueLoad.{loads}
 use Rattle.cell_table.proofs.Passes.{grows_valued, pass_by, tied_by, same_table, cell_inside, at_value, value_of}

@@ -1,4 +1,4 @@
-use Rattle.std.proofs.Common.{arith, ap, sym, ◌∙◌, refl, List, ℕ, Vec, Global, length, subst, ◌≡◌}
+use Rattle.std.proofs.Common.{arith, ap, ◌∙◌, refl, List, ℕ, Vec, Global, length}
 use Rattle.atomic_table.specs.Table.{Me}
 use Rattle.cell_table.specs.Rule.{values_in, first_view}
 use Rattle.cell_table.specs.declared.view.View.{View}

@@ -1,4 +1,4 @@
-use Rattle.std.proofs.Common.{rules, arith, refl, ap, sym, ◌∙◌, ◌≡◌, ◌/◌, ◌*◌, ◌+◌, ◌-◌, ℕ}
+use Rattle.std.proofs.Common.{arith, ap, sym, ◌∙◌, ◌≡◌}
 use Rattle.cell_table.specs.Steps.{first_put}
 use Rattle.cell_table.specs.Seats.{record_of}
 use Rattle.cell_table.specs.Pass.{TableState}

@@ -1,4 +1,4 @@
-use Rattle.std.proofs.Common.{rules, arith, refl, ap, sym, ◌∙◌, None, ℕ}
+use Rattle.std.proofs.Common.{arith, refl, ap, sym, ◌∙◌}
 use Rattle.cell_table.specs.Seats.{plan_of, record_of, reserved_in, noted_books}
 use Rattle.cell_table.proofs.Attempts.{held_now, put_may, put_may_next, put_planned, put_first_pass, put_next_pass, first_tied, next_tied, roomy_pass, entry_noted}
 use Rattle.cell_table.proofs.table.CellTable.put_value.Goals as goal

@@ -1,4 +1,4 @@
-use Rattle.std.proofs.Common.{arith, ap, sym, ◌∙◌, subst, ◌≡◌, ◌<◌, length, refl}
+use Rattle.std.proofs.Common.{arith, ap, sym, ◌∙◌}
 use Rattle.atomic_table.specs.Table.{Me}
 use Rattle.cell_table.specs.declared.view.View.{View}
 use Rattle.cell_table.specs.Pass.{TableState}

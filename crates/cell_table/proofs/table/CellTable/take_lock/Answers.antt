@@ -1,11 +1,11 @@
-use Rattle.std.proofs.Common.{rules, arith, refl, ap, subst, ◌∙◌, sym, ◌≡◌, ◌≢◌, ◌<◌, ◌/◌, ◌*◌, ◌+◌, ◌-◌, ◌^◌, ℕ, false, Bool}
+use Rattle.std.proofs.Common.{arith, refl, ap, ◌∙◌, ◌≡◌, ◌/◌, false}
 use Rattle.cell_table.specs.Cells.{has}
 use Rattle.cell_table.specs.Rule.{cells_of}
 use Rattle.cell_table.specs.Pass.{PassState, acting}
 use Rattle.cell_table.specs.Steps.{taken, missed, IsWord}
 use Rattle.cell_table.proofs.LockExchange.{takes_from}
-use Rattle.cell_table.proofs.Passes.{same_table, cell_inside, at_lock, pass_by, tied_by, grows_taken, grows_missed, taken_of, missed_of, look_word}
-use Rattle.cell_table.proofs.Attempts.{taken_tied, not_held}
+use Rattle.cell_table.proofs.Passes.{same_table, cell_inside, at_lock, pass_by, tied_by, grows_taken, grows_missed, missed_of, look_word}
+use Rattle.cell_table.proofs.Attempts.{taken_tied}
 use Rattle.cell_table.proofs.table.CellTable.take_lock.Goals as goal
 
 pub compare_exchange-found-requires : goal.compare_exchange-found-requires
