@@ -13,6 +13,8 @@ mod rule;
 mod seats;
 mod sent;
 mod table;
+#[cfg(test)]
+mod tests;
 mod view;
 mod words;
 
