@@ -47,3 +47,18 @@ fn a_held_lock_shows_its_owner(rt: HostRuntime) -> Result<(), Fail> {
     assert_eq!(rt; table.look_value(&mut first, 0), 5);
     Ok(())
 }
+
+// An attempt that was never decided gives its cell back as it was.
+#[test]
+fn an_undecided_attempt_leaves_no_version(rt: HostRuntime) -> Result<(), Fail> {
+    let (table, mut pass) = CellTable::open(rt.alloc(), AnyCells, &[5, 6], 2)?;
+    pass.reserve()?;
+    assert_eq!(rt; table.take_lock(&mut pass, 0, 0), Ok(()));
+    assert_eq!(rt; table.draw(&mut pass), 1);
+    table.give_back(&mut pass, 0);
+    assert_eq!(rt; table.look_lock(&mut pass, 0), 0);
+    let contents = table.close(pass);
+    assert_eq!(rt; (contents.value(0), contents.value(1)), (5, 6));
+    assert_eq!(rt; (contents.version(0), contents.version(1)), (0, 0));
+    Ok(())
+}
