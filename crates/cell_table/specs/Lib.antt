@@ -1,0 +1,11 @@
+pub mod Sorted
+pub mod Cells
+pub mod History
+pub mod Rule
+pub mod Steps
+pub mod Legal
+pub mod Told
+pub mod Pass
+pub mod IsPass
+pub mod Settled
+pub mod Seats
