@@ -1,0 +1,53 @@
+use Rattle.std.proofs.Common.{◌≡◌, ◌≢◌, [], slice_index, inl, inr, ap, sym, ◌∙◌, arith}
+use Rattle.std.proofs.lemmas.Bool.{cases_Bool}
+use Rattle.cell_table.specs.Cells.{has}
+use Rattle.cell_table.specs.Rule.{cells_of}
+use Rattle.cell_table.specs.declared.view.View.{View}
+use Rattle.cell_table.specs.Steps.{Grows}
+use Rattle.cell_table.specs.Pass.{PassState}
+use Rattle.attempt_lists.specs.Cells.{cell_at, word_of}
+use Rattle.tx_core.specs.Tx.{Attempt}
+use Rattle.tx_core.proofs.Looks.{observes_grows, drawn_grows}
+use Rattle.tx_core.proofs.AttemptFacts.{attempt_looks, attempt_commits, attempt_draws}
+use Rattle.tx_core.proofs.tx.Tx.draw_and_check.Goals as goal
+
+-- the draw keeps what was observed
+pub check-requires-clause-observed : goal.check-requires-clause-observed
+check-requires-clause-observed g c =
+    let some : c.self.inside.pass.view.held ≢ [] = λ none. c.requires.holds (ap (λ (a : Attempt _ _). a.pass.view.held) (sym c.self.view_is) ∙ none) in
+    let drew = attempt_draws _ _ c.self.inside.pass c.draw-drawn.new.pass _ _ _ c.draw-drawn.result (attempt_commits _ _ _ _ _ _ _ c.self.invariant) c.draw-drawn.ensures.view c.draw-drawn.ensures.of c.draw-drawn.ensures.later.1 some in
+    drew.observed
+
+pub invariant_of-self : goal.invariant_of-self
+invariant_of-self g c =
+    let some : c.self.inside.pass.view.held ≢ [] = λ none. c.requires.holds (ap (λ (a : Attempt _ _). a.pass.view.held) (sym c.self.view_is) ∙ none) in
+    let drew = attempt_draws _ _ c.self.inside.pass c.draw-drawn.new.pass _ _ _ c.draw-drawn.result (attempt_commits _ _ _ _ _ _ _ c.self.invariant) c.draw-drawn.ensures.view c.draw-drawn.ensures.of c.draw-drawn.ensures.later.1 some in
+    attempt_looks _ _ c.draw-drawn.new.pass c.check.new.pass _ _ _ _ c.in-Ok.ensures.looks c.in-Ok.ensures.of drew
+
+pub invariant_of-self-in-Err : goal.invariant_of-self-in-Err
+invariant_of-self-in-Err g c =
+    let some : c.self.inside.pass.view.held ≢ [] = λ none. c.requires.holds (ap (λ (a : Attempt _ _). a.pass.view.held) (sym c.self.view_is) ∙ none) in
+    let drew = attempt_draws _ _ c.self.inside.pass c.draw-drawn.new.pass _ _ _ c.draw-drawn.result (attempt_commits _ _ _ _ _ _ _ c.self.invariant) c.draw-drawn.ensures.view c.draw-drawn.ensures.of c.draw-drawn.ensures.later.1 some in
+    attempt_looks _ _ c.draw-drawn.new.pass c.check.new.pass _ _ _ _ c.in-Err.ensures.looks c.in-Err.ensures.of drew
+
+-- a held cell stands just before the draw by the draw itself, and the others by the validation
+pub returns-in-Ok-clause-check : goal.returns-in-Ok-clause-check
+returns-in-Ok-clause-check g c = rw (← c.self.view_is) (λ i lt.
+    let seen = c.self.invariant.observed i lt in
+    let view = ap (λ (s : PassState _ _). s.view) c.draw-drawn.ensures.view in
+    let held : c.draw-drawn.new.pass.view.held ≡ c.self.inside.pass.view.held = ap (λ (v : View _ _). v.held) view in
+    let known : c.draw-drawn.new.pass.view.known ≡ c.draw-drawn.result = ap (λ (v : View _ _). v.known) view in
+    let cell = cell_at c.self.inside.reads.observations i in
+    let later = c.draw-drawn.ensures.later.1 in
+    let grown : Grows c.self.inside.pass.view c.draw-drawn.new.pass.view = rw view (drawn_grows c.self.inside.pass.view c.draw-drawn.result later) in
+    elim (cases_Bool (has cell (cells_of c.self.inside.pass.view.held))) [
+      | inl mine ↦ observes_grows _ _ _ _ _ c.in-Ok.ensures.looks.1.grows (c.draw-drawn.ensures.held_stand cell (slice_index c.self.inside.reads.versions i) (word_of c.self.inside.reads.observations i) (c.self.invariant.pinned i lt mine) seen.reads)
+      | inr free ↦ (
+        slice_index c.self.inside.reads.versions i,
+        c.draw-drawn.new.pass.view.known,
+        c.in-Ok.ensures.looks.1.grows.values _ (grown.values _ seen.reads),
+        c.in-Ok.ensures.ok i lt (rw held free),
+        omega (arith, seen.low, c.self.invariant.begun.1),
+        omega (arith, known),
+      )
+    ])

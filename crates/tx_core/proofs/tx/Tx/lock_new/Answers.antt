@@ -1,0 +1,74 @@
+use Rattle.std.proofs.Common.{◌≡◌, ◌<◌, ◌++◌, ◌∷◌, [], length, None, ap, sym, ◌∙◌, arith}
+use Rattle.cell_table.specs.declared.view.View.{View}
+use Rattle.cell_table.specs.declared.view.Stage.TheVariants.{Open}
+use Rattle.cell_table.specs.Pass.{PassState}
+use Rattle.attempt_lists.specs.Cells.{word_at}
+use Rattle.tx_core.specs.Tx.{Attempt}
+use Rattle.tx_core.specs.Seen.{StandsAt}
+use Rattle.tx_core.proofs.Looks.{valued_is, looks_by}
+use Rattle.tx_core.proofs.AttemptFacts.{attempt_looks, attempt_widens, attempt_reserves}
+use Rattle.tx_core.proofs.Locking.{attempt_locks_new, others_takes, holds_only_takes, held_takes, takes_then_looks, among_inserted, word_at-new}
+use Rattle.tx_core.proofs.tx.Tx.lock_new.Goals as goal
+
+-- the value that was loaded under the lock is that of the version which the lock replaced
+stands_new : (g : _) (c : goal.After-push_reserved-in-Ok-lock_cell g) → StandsAt c.look_value-value.new.pass.view c.self.inside.version c.args.cell c.look_value-value.result c.in-Ok-lock_cell.version
+stands_new g c =
+    let t = c.in-Ok-lock_cell.ensures.takes in
+    let at = c.in-Ok-lock_cell.ensures.version in
+    let looks = looks_by c.lock_cell.new.pass c.look_value-value.new.pass _ c.look_value-value.ensures.view (valued_is _ _ _) in
+    let same : c.reserve_lock.new.pass.view ≡ c.self.inside.pass.view = ap (λ (s : PassState _ _). s.view) c.in-Ok.ensures.pass in
+    let stage : c.lock_cell.new.pass.view.stage ≡ Open = t.stage ∙ ap (λ (v : View _ _). v.stage) same ∙ ap (λ (a : Attempt _ _). a.pass.view.stage) c.self.view_is ∙ c.requires.undrawn in
+    let known : c.lock_cell.new.pass.view.known ≡ c.self.inside.pass.view.known = t.known ∙ ap (λ (v : View _ _). v.known) same in
+    let there : c.args.cell < length c.self.inside.table.now.opening = rw (ap (λ (a : Attempt _ _). a.table) c.self.view_is) c.requires.cell in
+    let begun = c.self.invariant.begun.1 in
+    record {
+      there = rw (c.look_value-value.ensures.of.2) there;
+      reads = c.look_value-value.ensures.held_value c.in-Ok-lock_cell.version (rw t.held (among_inserted (c.args.cell, c.in-Ok-lock_cell.version) c.reserve_lock.new.pass.view.held)) (rw stage tt);
+      low = at.0;
+      small = at.1;
+      upto = c.lock_cell.new.pass.view.known;
+      far = omega arith;
+      near = omega (arith, looks.1.known);
+      validated = looks.1.grows.validations _ at.2;
+    }
+
+pub invariant_of-self-in-Ok-lock_cell : goal.invariant_of-self-in-Ok-lock_cell
+invariant_of-self-in-Ok-lock_cell g c =
+    let there : c.args.cell < length c.self.inside.table.now.opening = rw (ap (λ (a : Attempt _ _). a.table) c.self.view_is) c.requires.cell in
+    let stage : c.self.inside.pass.view.stage ≡ Open = rw (ap (λ (a : Attempt _ _). a.pass) c.self.view_is) c.requires.undrawn in
+    let unobserved : word_at c.self.inside.reads.observations c.args.cell ≡ None = rw (ap (λ (a : Attempt _ _). a.observations) c.self.view_is) c.requires.unobserved in
+    let t = takes_then_looks _ _ _ _ _ c.in-Ok-lock_cell.ensures.takes (looks_by c.lock_cell.new.pass c.look_value-value.new.pass _ c.look_value-value.ensures.view (valued_is _ _ _)) in
+    attempt_locks_new _ _ c.self.inside.pass c.reserve_lock.new.pass c.look_value-value.new.pass c.self.inside.reads c.push_reserved-in-Ok-lock_cell.new.self _ c.self.inside.held c.reserve_lock.new.held c.push_reserved.new.self _ c.args.cell c.in-Ok-lock_cell.version c.look_value-value.result
+    c.self.invariant c.in-Ok.ensures.pass c.in-Ok.ensures.entries c.in-Ok.ensures.ok c.in-Ok.ensures.locks t c.look_value-value.ensures.of stage
+    c.push_reserved.ensures.entries c.push_reserved.ensures.reserved there unobserved
+    (c.push_reserved-in-Ok-lock_cell.ensures.observations ∙ ap (λ es. es ++ (c.args.cell, c.look_value-value.result) ∷ []) c.reserve.ensures.observations)
+    (c.push_reserved-in-Ok-lock_cell.ensures.versions ∙ ap (λ vs. vs ++ c.in-Ok-lock_cell.version ∷ []) c.reserve.ensures.versions)
+    (stands_new g c)
+
+pub returns-in-Ok-lock_cell-clause-observes : goal.returns-in-Ok-lock_cell-clause-observes
+returns-in-Ok-lock_cell-clause-observes g c = record {
+  version = c.in-Ok-lock_cell.version;
+  is = rw (c.push_reserved-in-Ok-lock_cell.ensures.observations, c.push_reserved-in-Ok-lock_cell.ensures.versions, c.reserve.ensures.observations, c.reserve.ensures.versions)
+      (ap (λ (a : Attempt _ _). record a { pass = c.look_value-value.new.pass; observations = a.observations ++ (c.args.cell, c.look_value-value.result) ∷ []; versions = a.versions ++ c.in-Ok-lock_cell.version ∷ [] }) c.self.view_is);
+  stands = rw (ap (λ (a : Attempt _ _). a.version) (sym c.self.view_is)) (stands_new g c);
+}
+
+pub invariant_of-self-in-Err : goal.invariant_of-self-in-Err
+invariant_of-self-in-Err g c =
+    attempt_looks _ _ _ c.lock_cell.new.pass _ _ _ _ c.in-Err.ensures.looks c.in-Err.ensures.of
+    (attempt_reserves _ _ _ _ c.reserve.new.self _ _ _ c.reserve.ensures.observations c.reserve.ensures.versions
+    (attempt_widens _ _ c.self.inside.pass c.reserve_lock.new.pass _ _ c.self.inside.held c.reserve_lock.new.held _ c.self.invariant c.in-Ok.ensures.pass c.in-Ok.ensures.entries (omega (arith, c.in-Ok.ensures.ok)) c.in-Ok.ensures.locks))
+
+pub returns-in-Ok-lock_cell-clause-value : goal.returns-in-Ok-lock_cell-clause-value
+returns-in-Ok-lock_cell-clause-value g c =
+    rw (c.requires.unwritten, c.push_reserved-in-Ok-lock_cell.ensures.observations, c.reserve.ensures.observations, ap (λ (a : Attempt _ _). a.observations) c.self.view_is)
+    (word_at-new c.args.self.now.observations c.args.cell c.look_value-value.result c.requires.unobserved)
+
+pub returns-in-Ok-lock_cell-clause-held : goal.returns-in-Ok-lock_cell-clause-held
+returns-in-Ok-lock_cell-clause-held g c = held_takes _ _ _ _ (takes_then_looks _ _ _ _ _ c.in-Ok-lock_cell.ensures.takes (looks_by c.lock_cell.new.pass c.look_value-value.new.pass _ c.look_value-value.ensures.view (valued_is _ _ _)))
+
+pub returns-in-Ok-lock_cell-clause-pass : goal.returns-in-Ok-lock_cell-clause-pass
+returns-in-Ok-lock_cell-clause-pass g c = rw (ap (λ (a : Attempt _ _). a.pass) (sym c.self.view_is)) (holds_only_takes c.self.inside.pass c.reserve_lock.new.pass _ _ _ c.in-Ok.ensures.pass (takes_then_looks _ _ _ _ _ c.in-Ok-lock_cell.ensures.takes (looks_by c.lock_cell.new.pass c.look_value-value.new.pass _ c.look_value-value.ensures.view (valued_is _ _ _))))
+
+pub returns-in-Ok-lock_cell-clause-others : goal.returns-in-Ok-lock_cell-clause-others
+returns-in-Ok-lock_cell-clause-others g c = rw (ap (λ (a : Attempt _ _). a.pass) (sym c.self.view_is)) (others_takes c.self.inside.pass c.reserve_lock.new.pass _ _ _ c.in-Ok.ensures.pass (takes_then_looks _ _ _ _ _ c.in-Ok-lock_cell.ensures.takes (looks_by c.lock_cell.new.pass c.look_value-value.new.pass _ c.look_value-value.ensures.view (valued_is _ _ _))))

@@ -1,0 +1,58 @@
+-- An attempt as contracts see it.
+use Rattle.std.specs.Prelude.{◌≡◌, ℕ, ◌<◌, ◌≤◌, Bool, true, false, List, [], ◌∷◌, ◌++◌, length, slice_index, is_some, None, All}
+use Rattle.std.specs.Map.{keys_of}
+use Rattle.cell_table.specs.Cells.{has}
+use Rattle.cell_table.specs.Sorted.{Among}
+use Rattle.cell_table.specs.Rule.{cells_of}
+use Rattle.cell_table.specs.Steps.{IsUndecided}
+use Rattle.cell_table.specs.declared.view.Stage.TheVariants.{Open}
+use Rattle.cell_table.specs.Pass.{TableState, PassState, IsPassOf}
+use Rattle.attempt_lists.specs.Cells.{Entries, Listed, word_at, word_of, cell_at}
+use Rattle.attempt_lists.specs.Levels.{Levels}
+use Rattle.attempt_lists.specs.Observed as lists
+use Rattle.tx_core.specs.Seen.{StandsAt}
+use Rattle.tx_core.specs.declared.stop.TxState.{TxState}
+
+pub record Attempt (M D : Type 0) : Type 0 where
+  pub table : TableState M
+  pub pass : PassState M D
+  pub state : TxState
+  pub version : ℕ
+  -- cells and values, in the order in which they were observed, and beside them the cells' versions
+  pub observations : Entries
+  pub versions : List ℕ
+  -- cells and values, in ascending order of cells
+  pub writes : Entries
+  pub notes : List D
+  -- a call of the commit was made
+  pub committing : Bool
+
+module _ {M D : Type 0} where
+  -- What is true of every attempt: among others, that each observation stands in the pass's view at the attempt's version
+  pub record IsAttempt (table : TableState M) (pass : PassState M D) (version : ℕ) (reads : lists.Observed) (writes : Levels) (held : Listed) (committing : Bool) : Type 0 where
+    pub of : IsPassOf table pass
+    pub few : table.callers ≤ 4096
+    pub begun : (pass.seen ≤ version) × (version ≤ pass.view.known)
+    pub observed : (i : ℕ) → i < length reads.observations → StandsAt pass.view version (cell_at reads.observations i) (word_of reads.observations i) (slice_index reads.versions i)
+    pub written : All (λ c. c < length table.opening) (keys_of writes.parent)
+    pub no_child : writes.child ≡ []
+    -- the pass holds the cells of the list
+    pub holds : (c : ℕ) → has c (cells_of pass.view.held) ≡ is_some (word_at held.entries c)
+    pub in_table : All (λ c. c < length table.opening) (keys_of held.entries)
+    pub sized : length reads.versions ≡ length reads.observations
+    -- a held cell was observed or written
+    pub met : (c : ℕ) → word_at reads.observations c ≡ None → word_at writes.parent c ≡ None → has c (cells_of pass.view.held) ≡ false
+    -- an observed cell that is held still has the version that was observed
+    pub pinned : (i : ℕ) → i < length reads.observations → has (cell_at reads.observations i) (cells_of pass.view.held) ≡ true → Among (cell_at reads.observations i, slice_index reads.versions i) pass.view.held
+    pub undecided : IsUndecided pass.view.stage
+    pub undrawn : pass.view.held ≡ [] → pass.view.stage ≡ Open
+    -- room for the record, and for a lock of each cell that is written
+    pub reserved : 0 < pass.reserved
+    pub locks : held.reserved ≤ pass.places
+    pub room : committing ≡ false → length writes.parent ≤ held.reserved
+
+  -- one more observation: the cell's value, which stands at the attempt's version
+  pub record Observed (a b : Attempt M D) (cell x : ℕ) : Type 0 where
+    pub version : ℕ
+    pub is : b ≡ record a { pass = b.pass; observations = a.observations ++ (cell, x) ∷ []; versions = a.versions ++ version ∷ [] }
+    pub stands : StandsAt b.pass.view a.version cell x version

@@ -1,0 +1,58 @@
+//! The locks of an attempt: room for them, and how they are given back.
+ghost use Rattle.std.specs.Prelude.{◌≡◌, ℕ, ◌+◌, ◌<◌, ◌≤◌, [], length, is_some, All, OnOk, OnErr};
+ghost use Rattle.std.specs.Map.{keys_of};
+ghost use Rattle.cell_table.specs.Cells.{has};
+ghost use Rattle.cell_table.specs.Rule.{cells_of};
+ghost use Rattle.cell_table.specs.declared.view.Stage.TheVariants.{Open};
+ghost use Rattle.cell_table.specs.Steps.{IsUndecided, IsIdle};
+ghost use Rattle.cell_table.specs.Pass.{IsPassOf, trail_of};
+ghost use Rattle.attempt_lists.specs.Cells.{word_at};
+ghost use Rattle.tx_core.specs.Causes.{GrewBy};
+ghost use Rattle.tx_core.specs.Seen.{GivesBack};
+
+use attempt_lists::CellList;
+use cell_table::{CellTable, Meaning, Pass};
+use std::alloc::AllocError;
+
+/// Reserves room for one more lock beside those reserved already, in the list of held cells and in the pass.
+pub(crate) fn reserve_lock<M: Meaning>(
+    pass: &mut Pass<M>,
+    held: &mut CellList,
+) -> Result<(), AllocError>
+    requires locks { held.old.reserved ≤ pass.old.places }
+    ensures pass { pass.new ≡ record pass.old { places = pass.new.places } }
+    ensures entries { held.new.entries ≡ held.old.entries }
+    ensures locks { held.new.reserved ≤ pass.new.places }
+    ensures ok { OnOk result (held.new.reserved ≡ held.old.reserved + 1) }
+    ensures err { OnErr result (held.new.reserved ≡ held.old.reserved) }
+{
+    let Ok(reserved) = u32::try_from(held.reserved()) else {
+        return Err(AllocError);
+    };
+    let Some(locks) = reserved.checked_add(1) else {
+        return Err(AllocError);
+    };
+    pass.reserve_locks(locks)?;
+    held.reserve(1)
+}
+
+/// Gives all held cells back, the last one first, while nothing is decided. Their versions are those that they had.
+pub(crate) fn give_back_all<M: Meaning>(
+    table: &CellTable<M>,
+    pass: &mut Pass<M>,
+    mut held: CellList,
+)
+    requires of { IsPassOf table.now pass.old }
+    requires holds { (c : ℕ) → has c (cells_of pass.old.view.held) ≡ is_some (word_at held.entries c) }
+    requires in_table { All (λ c. c < length table.now.opening) (keys_of held.entries) }
+    requires undecided { IsUndecided pass.old.view.stage }
+    requires undrawn { pass.old.view.held ≡ [] → pass.old.view.stage ≡ Open }
+    ensures of { IsPassOf table.now pass.new }
+    ensures idle { IsIdle pass.new.view }
+    ensures gives { GivesBack pass.old pass.new }
+    ensures steps { GrewBy (length held.entries) (trail_of pass.old) (trail_of pass.new) }
+{
+    while let Some((cell, _)) = held.pop() {
+        table.give_back(pass, cell);
+    }
+}

@@ -1,0 +1,418 @@
+//! One attempt.
+ghost use Rattle.std.specs.Prelude.{◌≡◌, ℕ, ◌+◌, ◌-◌, ◌<◌, ◌≤◌, ◌≢◌, ◌↔◌, [], ◌∷◌, ◌++◌, true, false, length, is_some, Some, None, IsSome, IsTrue, IsOk, IfOk, IfErr, OnOk, OnErr, ◌⊎◌};
+ghost use Rattle.std.specs.Option.{option_or};
+
+use crate::check::check;
+use crate::gives::{give_back_all, reserve_lock};
+use crate::steps::{lock_cell, lock_seen, read_cell};
+use crate::stop::{Stop, TxState};
+use attempt_lists::{CellList, Observation, ReadSet, WriteSet};
+use cell_table::{CellTable, Meaning, Pass};
+use std::alloc::{AllocError, Global};
+use std::marker::Model;
+
+/// An attempt: what it read, will write and did, over one pass of a table. It must be spent by a commit or by `abort`.
+///
+/// Each value that it read is the cell's value at its version.
+pub struct Tx<'a, M: Meaning> {
+    table: &'a CellTable<M>,
+    pass: Pass<M>,
+    version: u64,
+    reads: ReadSet,
+    writes: WriteSet,
+    held: CellList,
+    notes: Vec<M::Done, Global>,
+    state: TxState,
+    committing: bool,
+}
+
+impl<'a, M: Meaning> Model for Tx<'a, M> {
+    ghost use Rattle.tx_core.specs.Tx.{Attempt, IsAttempt};
+
+    ghost Value = { Attempt M M.Done };
+
+    ghost view = { λ a. record { table = a.table.now; pass = a.pass; state = a.state; version = a.version; observations = a.reads.observations; versions = a.reads.versions; writes = a.writes.parent; notes = a.notes.items; committing = a.committing } };
+
+    ghost invariant = { λ a. IsAttempt a.table.now a.pass a.version a.reads a.writes a.held a.committing };
+}
+
+impl<'a, M: Meaning> Tx<'a, M> {
+    ghost use Rattle.cell_table.specs.Cells.{has};
+    ghost use Rattle.cell_table.specs.Rule.{callers_of, cells_of};
+    ghost use Rattle.cell_table.specs.declared.view.Event.TheVariants.{ClockLoaded};
+    ghost use Rattle.cell_table.specs.declared.view.Stage.TheVariants.{Open, Drawn};
+    ghost use Rattle.cell_table.specs.Steps.{IsIdle, Grows, clocked, Observes};
+    ghost use Rattle.cell_table.specs.Pass.{IsPassOf, IsSole, IsHeld, trail_of, note};
+    ghost use Rattle.attempt_lists.specs.Cells.{word_at, word_of, cell_at, put};
+    ghost use Rattle.tx_core.specs.declared.stop.Stop.TheVariants.{Held, Newer, Memory};
+    ghost use Rattle.tx_core.specs.declared.stop.TxState.TheVariants.{Running, Child, ChildStopped, Stopped};
+    ghost use Rattle.tx_core.specs.Causes.{CausedSince, IsOfCell, IsFound, GrewBy};
+    ghost use Rattle.tx_core.specs.Seen.{LooksOnly, StandsAt, HoldsOnly, SameOthers};
+    ghost use Rattle.tx_core.specs.Tx.{Observed};
+
+    /// Begins an attempt. Its version is the word of one load of the clock, the only step of the call, after the room for its record is reserved.
+    ///
+    /// After want of memory the pass comes back unchanged.
+    pub fn begin(
+        alloc: Global,
+        table: &'a CellTable<M>,
+        mut pass: Pass<M>,
+    ) -> Result<Tx<'a, M>, (Pass<M>, AllocError)>
+        requires of { IsPassOf table.now pass }
+        requires few { table.now.callers ≤ 4096 }
+        requires idle { IsIdle pass.view }
+        requires draw { 0 < pass.view.draws }
+        ensures table { IfOk result (λ tx. tx.table ≡ table.now) }
+        ensures fresh { IfOk result (λ tx. (tx.state ≡ Running) × (tx.observations ≡ []) × (tx.writes ≡ []) × (tx.notes ≡ []) × (tx.committing ≡ false)) }
+        ensures pass { IfOk result (λ tx. tx.pass ≡ record pass { view = clocked pass.view tx.version; reserved = tx.pass.reserved }) }
+        ensures version { IfOk result (λ tx. (trail_of tx.pass ≡ trail_of pass ++ ClockLoaded tx.version ∷ []) × (pass.seen ≤ tx.version)) }
+        ensures refused { IfErr result (λ back. back.0 ≡ pass) }
+    {
+        if let Err(memory) = pass.reserve() {
+            return Err((pass, memory));
+        }
+        let version = table.clock(&mut pass);
+        Ok(Tx {
+            table,
+            pass,
+            version,
+            reads: ReadSet::new(alloc),
+            writes: WriteSet::new(alloc),
+            held: CellList::new(alloc),
+            notes: Vec::new(alloc),
+            state: TxState::Running,
+            committing: false,
+        })
+    }
+
+    /// How the attempt stands.
+    pub fn state(&self) -> TxState
+        ensures { result ≡ self.now.state }
+    {
+        self.state
+    }
+
+    /// The place at which all that it read stands.
+    pub fn version(&self) -> u64
+        ensures { result ≡ self.now.version }
+    {
+        self.version
+    }
+
+    /// Whether a cell is written.
+    pub fn is_writing(&self) -> bool
+        ensures { IsTrue result ↔ (0 < length self.now.writes) }
+    {
+        !self.writes.is_empty()
+    }
+
+    /// What is true of every attempt at any moment: each of its observations stands at its version in the view of its pass.
+    pub fn vouched(&self)
+        ensures { (i : ℕ) → i < length self.now.observations → Observes self.now.pass.view (cell_at self.now.observations i) (word_of self.now.observations i) self.now.version }
+    {
+        let _ = &self.version;
+    }
+
+    /// The value of a cell: the attempt's own write, else what it observed of the cell, both without a step. Else the
+    /// value of the cell at the attempt's version, which is then observed.
+    ///
+    /// After a stop the state is `Stopped`, and nothing else has changed but that the pass knows more.
+    pub fn read(&mut self, cell: u32) -> Result<u64, Stop>
+        requires running { self.old.state ≡ Running }
+        requires before_commit { self.old.committing ≡ false }
+        requires cell { cell < length self.old.table.opening }
+        ensures own { (x : ℕ) → word_at self.old.writes cell ≡ Some x → (result ≡ Ok x) × (self.new ≡ self.old) }
+        ensures seen_before { (x : ℕ) → word_at self.old.writes cell ≡ None → word_at self.old.observations cell ≡ Some x → (result ≡ Ok x) × (self.new ≡ self.old) }
+        ensures observes { word_at self.old.writes cell ≡ None → word_at self.old.observations cell ≡ None → IfOk result (λ x. Observed self.old self.new cell x) }
+        ensures stopped { IfErr result (λ stop. IsOfCell cell stop × (self.new ≡ record self.old { pass = self.new.pass; state = Stopped })) }
+        ensures cause { IfErr result (CausedSince (callers_of self.old.pass.view.books) self.old.version (length (trail_of self.old.pass)) (trail_of self.new.pass)) }
+        ensures looks { LooksOnly self.old.pass self.new.pass }
+        ensures steps { GrewBy 3 (trail_of self.old.pass) (trail_of self.new.pass) }
+        ensures sole { IsSole self.old.pass → IfErr result (λ stop. stop ≡ Memory) }
+    {
+        if let Some(value) = self.writes.get(cell) {
+            return Ok(value);
+        }
+        if let Some(seen) = self.reads.get(cell) {
+            return Ok(seen.value);
+        }
+        self.observe(cell)
+    }
+
+    // The value of a cell that was neither written nor observed.
+    fn observe(&mut self, cell: u32) -> Result<u64, Stop>
+        requires cell { cell < length self.old.table.opening }
+        requires unwritten { word_at self.old.writes cell ≡ None }
+        requires unobserved { word_at self.old.observations cell ≡ None }
+        ensures observes { IfOk result (λ x. Observed self.old self.new cell x) }
+        ensures stopped { IfErr result (λ stop. IsOfCell cell stop × (self.new ≡ record self.old { pass = self.new.pass; state = Stopped })) }
+        ensures cause { IfErr result (CausedSince (callers_of self.old.pass.view.books) self.old.version (length (trail_of self.old.pass)) (trail_of self.new.pass)) }
+        ensures looks { LooksOnly self.old.pass self.new.pass }
+        ensures steps { GrewBy 3 (trail_of self.old.pass) (trail_of self.new.pass) }
+        ensures sole { IsSole self.old.pass → IfErr result (λ stop. stop ≡ Memory) }
+    {
+        let Ok(()) = self.reads.reserve(1) else {
+            self.state = TxState::Stopped;
+            return Err(Stop::Memory);
+        };
+        let table = self.table;
+        match read_cell(table, &mut self.pass, cell, self.version) {
+            Ok((value, version)) => {
+                self.reads.push_reserved(Observation {
+                    cell,
+                    value,
+                    version,
+                });
+                Ok(value)
+            }
+            Err(stop) => {
+                self.state = TxState::Stopped;
+                Err(stop)
+            }
+        }
+    }
+
+    /// Takes the lock of a cell, and then answers as `read`. A cell that is held already takes no step.
+    ///
+    /// One compare-exchange decides: from the version that was observed, or after one look from a version that isn't above
+    /// the attempt's. After a stop the state is `Stopped`, and no cell is held that wasn't.
+    pub fn hold(&mut self, cell: u32) -> Result<u64, Stop>
+        requires running { self.old.state ≡ Running }
+        requires before_commit { self.old.committing ≡ false }
+        requires undrawn { self.old.pass.view.stage ≡ Open }
+        requires cell { cell < length self.old.table.opening }
+        ensures held { OnOk result (IsHeld self.new.pass cell) }
+        ensures value { IfOk result (λ x. option_or (word_at self.old.writes cell) (word_at self.new.observations cell) ≡ Some x) }
+        ensures already { IsHeld self.old.pass cell → IsOk result × (self.new ≡ self.old) }
+        ensures adds { OnOk result ((self.new ≡ record self.old { pass = self.new.pass }) ⊎ ((word_at self.old.writes cell ≡ None) × (word_at self.old.observations cell ≡ None) × (x : ℕ) × Observed self.old self.new cell x)) }
+        ensures stopped { IfErr result (λ stop. IsOfCell cell stop × (self.new ≡ record self.old { pass = self.new.pass; state = Stopped }) × LooksOnly self.old.pass (record self.new.pass { places = self.old.pass.places })) }
+        ensures cause { IfErr result (CausedSince (callers_of self.old.pass.view.books) self.old.version (length (trail_of self.old.pass)) (trail_of self.new.pass)) }
+        ensures pass { HoldsOnly self.old.pass self.new.pass }
+        ensures others { SameOthers self.old.pass self.new.pass cell }
+        ensures steps { GrewBy 3 (trail_of self.old.pass) (trail_of self.new.pass) }
+    {
+        if self.held.place(cell).is_some() {
+            return Ok(self.own(cell));
+        }
+        if self.reads.get(cell).is_some() || self.writes.get(cell).is_some() {
+            self.lock_known(cell)?;
+            return Ok(self.own(cell));
+        }
+        let value = self.lock_new(cell)?;
+        Ok(value)
+    }
+
+    // The attempt's own write of a cell, else what it observed of it.
+    fn own(&self, cell: u32) -> u64
+        requires { IsSome (option_or (word_at self.now.writes cell) (word_at self.now.observations cell)) }
+        ensures { option_or (word_at self.now.writes cell) (word_at self.now.observations cell) ≡ Some result }
+    {
+        match self.writes.get(cell) {
+            Some(value) => value,
+            None => match self.reads.get(cell) {
+                Some(seen) => seen.value,
+                None => unreachable!(),
+            },
+        }
+    }
+
+    // Takes the lock of a cell that was observed or written.
+    fn lock_known(&mut self, cell: u32) -> Result<(), Stop>
+        requires undrawn { self.old.pass.view.stage ≡ Open }
+        requires cell { cell < length self.old.table.opening }
+        requires unheld { has cell (cells_of self.old.pass.view.held) ≡ false }
+        requires known { IsSome (option_or (word_at self.old.writes cell) (word_at self.old.observations cell)) }
+        ensures held { OnOk result (IsHeld self.new.pass cell) }
+        ensures same { OnOk result (self.new ≡ record self.old { pass = self.new.pass }) }
+        ensures stopped { IfErr result (λ stop. IsOfCell cell stop × (self.new ≡ record self.old { pass = self.new.pass; state = Stopped }) × LooksOnly self.old.pass (record self.new.pass { places = self.old.pass.places })) }
+        ensures cause { IfErr result (CausedSince (callers_of self.old.pass.view.books) self.old.version (length (trail_of self.old.pass)) (trail_of self.new.pass)) }
+        ensures pass { HoldsOnly self.old.pass self.new.pass }
+        ensures others { SameOthers self.old.pass self.new.pass cell }
+        ensures steps { GrewBy 2 (trail_of self.old.pass) (trail_of self.new.pass) }
+    {
+        let Ok(()) = reserve_lock(&mut self.pass, &mut self.held) else {
+            self.state = TxState::Stopped;
+            return Err(Stop::Memory);
+        };
+        let table = self.table;
+        match lock_seen(table, &mut self.pass, &self.reads, cell, self.version) {
+            Ok(version) => {
+                self.held.push_reserved(cell, version);
+                Ok(())
+            }
+            Err(stop) => {
+                self.state = TxState::Stopped;
+                Err(stop)
+            }
+        }
+    }
+
+    // Takes the lock of a cell that was neither observed nor written, and observes its value.
+    fn lock_new(&mut self, cell: u32) -> Result<u64, Stop>
+        requires undrawn { self.old.pass.view.stage ≡ Open }
+        requires cell { cell < length self.old.table.opening }
+        requires unwritten { word_at self.old.writes cell ≡ None }
+        requires unobserved { word_at self.old.observations cell ≡ None }
+        ensures held { OnOk result (IsHeld self.new.pass cell) }
+        ensures value { IfOk result (λ x. option_or (word_at self.old.writes cell) (word_at self.new.observations cell) ≡ Some x) }
+        ensures observes { IfOk result (λ x. Observed self.old self.new cell x) }
+        ensures stopped { IfErr result (λ stop. IsOfCell cell stop × (self.new ≡ record self.old { pass = self.new.pass; state = Stopped }) × LooksOnly self.old.pass (record self.new.pass { places = self.old.pass.places })) }
+        ensures cause { IfErr result (CausedSince (callers_of self.old.pass.view.books) self.old.version (length (trail_of self.old.pass)) (trail_of self.new.pass)) }
+        ensures pass { HoldsOnly self.old.pass self.new.pass }
+        ensures others { SameOthers self.old.pass self.new.pass cell }
+        ensures steps { GrewBy 3 (trail_of self.old.pass) (trail_of self.new.pass) }
+    {
+        let Ok(()) = reserve_lock(&mut self.pass, &mut self.held) else {
+            self.state = TxState::Stopped;
+            return Err(Stop::Memory);
+        };
+        let Ok(()) = self.reads.reserve(1) else {
+            self.state = TxState::Stopped;
+            return Err(Stop::Memory);
+        };
+        let table = self.table;
+        match lock_cell(table, &mut self.pass, cell, self.version) {
+            Ok(version) => {
+                let value = table.look_value(&mut self.pass, cell);
+                self.held.push_reserved(cell, version);
+                self.reads.push_reserved(Observation {
+                    cell,
+                    value,
+                    version,
+                });
+                Ok(value)
+            }
+            Err(stop) => {
+                self.state = TxState::Stopped;
+                Err(stop)
+            }
+        }
+    }
+
+    /// Writes a cell, for the commit. It stores nothing that others see and looks at nothing.
+    ///
+    /// After want of memory the state is `Stopped`, and nothing is written.
+    pub fn write(&mut self, cell: u32, value: u64) -> Result<(), AllocError>
+        requires running { self.old.state ≡ Running }
+        requires before_commit { self.old.committing ≡ false }
+        requires cell { cell < length self.old.table.opening }
+        ensures ok { OnOk result (self.new ≡ record self.old { pass = self.new.pass; writes = put self.old.writes cell value }) }
+        ensures stopped { OnErr result (self.new ≡ record self.old { pass = self.new.pass; state = Stopped }) }
+        ensures pass { self.new.pass ≡ record self.old.pass { places = self.new.pass.places } }
+    {
+        let Ok(()) = reserve_lock(&mut self.pass, &mut self.held) else {
+            self.state = TxState::Stopped;
+            return Err(AllocError);
+        };
+        let Ok(()) = self.writes.put(cell, value) else {
+            self.state = TxState::Stopped;
+            return Err(AllocError);
+        };
+        Ok(())
+    }
+
+    /// Notes a call with its reply, for the record of the commit.
+    ///
+    /// After want of memory the state is `Stopped`, and nothing is noted.
+    pub fn note(&mut self, done: M::Done) -> Result<(), AllocError>
+        requires running { self.old.state ≡ Running }
+        requires before_commit { self.old.committing ≡ false }
+        ensures ok { OnOk result (self.new ≡ record self.old { notes = self.old.notes ++ done ∷ [] }) }
+        ensures stopped { OnErr result (self.new ≡ record self.old { state = Stopped }) }
+    {
+        if self.notes.push(done).is_err() {
+            self.state = TxState::Stopped;
+            return Err(AllocError);
+        }
+        Ok(())
+    }
+
+    /// Draws the version of the commit, and validates every observation in the order in which they were made.
+    ///
+    /// Ok gives the version that was drawn: all that was observed stands just before it. After a stop the state is
+    /// `Stopped`. One draw is used up in both cases.
+    pub fn draw_and_check(&mut self) -> Result<u64, Stop>
+        requires running { self.old.state ≡ Running }
+        requires undrawn { self.old.pass.view.stage ≡ Open }
+        requires holds { self.old.pass.view.held ≢ [] }
+        requires left { 0 < self.old.pass.view.draws }
+        ensures drawn { IfOk result (λ d. (self.new.pass.view.stage ≡ Drawn d) × (self.old.version < d)) }
+        ensures check { IfOk result (λ d. (i : ℕ) → i < length self.old.observations → Observes self.new.pass.view (cell_at self.old.observations i) (word_of self.old.observations i) (d - 1)) }
+        ensures same { OnOk result (self.new ≡ record self.old { pass = self.new.pass; committing = true }) }
+        ensures stopped { IfErr result (λ stop. IsFound stop × (self.new ≡ record self.old { pass = self.new.pass; state = Stopped; committing = true })) }
+        ensures cause { IfErr result (CausedSince (callers_of self.old.pass.view.books) self.old.version (length (trail_of self.old.pass)) (trail_of self.new.pass)) }
+        ensures draws { self.new.pass.view.draws ≡ self.old.pass.view.draws - 1 }
+        ensures held { self.new.pass.view.held ≡ self.old.pass.view.held }
+        ensures books { self.new.pass.books ≡ self.old.pass.books }
+        ensures steps { GrewBy (1 + length self.old.observations) (trail_of self.old.pass) (trail_of self.new.pass) }
+    {
+        self.committing = true;
+        let table = self.table;
+        let drawn = table.draw(&mut self.pass);
+        match check(table, &mut self.pass, &self.reads, &self.held, self.version) {
+            Ok(()) => Ok(drawn),
+            Err(stop) => {
+                self.state = TxState::Stopped;
+                Err(stop)
+            }
+        }
+    }
+
+    /// Ends the attempt without a record. Each held cell is given back with the version that it had.
+    ///
+    /// The pass has seen the attempt's version. What the attempt observed stands in the pass's view at that place.
+    pub fn abort(self) -> Pass<M>
+        ensures of { IsPassOf self.entry.table result }
+        ensures idle { IsIdle result.view }
+        ensures seen { result.seen ≡ self.entry.version }
+        ensures books { result.books ≡ self.entry.pass.books }
+        ensures pass { (result.room ≡ self.entry.pass.room) × (result.view.draws ≡ self.entry.pass.view.draws) }
+        ensures vouched { (i : ℕ) → i < length self.entry.observations → Observes result.view (cell_at self.entry.observations i) (word_of self.entry.observations i) self.entry.version }
+        ensures grows { Grows self.entry.pass.view result.view }
+    {
+        let Tx {
+            table,
+            mut pass,
+            version,
+            reads: _,
+            writes: _,
+            held,
+            notes: _,
+            state: _,
+            committing: _,
+        } = self;
+        give_back_all(table, &mut pass, held);
+        pass.saw(version);
+        pass
+    }
+
+    /// Commits an attempt that writes nothing. Each held cell is given back with the version that it had, and the record
+    /// stands in the acting caller's book at the attempt's version.
+    pub fn commit_reads(self) -> Pass<M>
+        requires running { self.state ≡ Running }
+        requires first { self.committing ≡ false }
+        requires no_write { self.writes ≡ [] }
+        requires explained { (m : M) → self.pass.view.meaning ≡ Some m → M.explains m self.observations [] self.notes }
+        ensures of { IsPassOf self.entry.table result }
+        ensures idle { IsIdle result.view }
+        ensures seen { result.seen ≡ self.entry.version }
+        ensures record { result.books ≡ note self.entry.version false (record { observations = self.entry.observations; writes = []; dones = self.entry.notes }) self.entry.pass.books }
+        ensures pass { (result.room ≡ self.entry.pass.room) × (result.view.draws ≡ self.entry.pass.view.draws) }
+        ensures grows { Grows self.entry.pass.view result.view }
+    {
+        let Tx {
+            table,
+            mut pass,
+            version,
+            reads,
+            writes: _,
+            held,
+            notes,
+            state: _,
+            committing: _,
+        } = self;
+        give_back_all(table, &mut pass, held);
+        pass.add_reads(version, reads.into_observations(), notes);
+        pass
+    }
+}
