@@ -1,8 +1,9 @@
 -- Elements of a list and of its filter.
-use Rattle.std.proofs.Common.{◌≡◌, ℕ, zero, suc, ◌<◌, Bool, true, false, List, [], ◌∷◌, Some, refl, sym, ◌∙◌, ap, subst, arith, length, get_or}
+use Rattle.std.proofs.Common.{◌≡◌, ℕ, zero, suc, ◌<◌, Bool, true, false, List, [], ◌∷◌, Some, refl, sym, ◌∙◌, ap, arith, length, get_or}
 use Rattle.std.specs.Prelude.{All, Contains, slice_get, filter, ◌||◌}
 use Rattle.std.specs.List.{list_any}
 use Rattle.std.proofs.lemmas.List.{get_or_default}
+use Rattle.std.proofs.lemmas.List.Elements.{All-contains}
 
 pub contains_at : {X : Type 0} (xs : List X) (k : ℕ) (d : X) → k < length xs → Contains xs (get_or xs k d)
 contains_at xs k d lt = (k, lt, get_or_default xs k (get_or xs k d) d lt)
@@ -12,18 +13,9 @@ contains_get [] i x at = absurd (cc)
 contains_get (y ∷ xs) zero x at = let same : y ≡ x = cc in (0, omega arith, same)
 contains_get (y ∷ xs) (suc i) x at = let rest = contains_get xs i x at in (suc rest.0, omega (arith, rest.1), rest.2)
 
-pub get_there : {X : Type 0} (xs : List X) (k : ℕ) (d : X) → k < length xs → slice_get xs k ≡ Some (get_or xs k d)
-get_there [] k d lt = absurd (omega arith)
-get_there (x ∷ xs) zero d lt = refl
-get_there (x ∷ xs) (suc k) d lt = get_there xs k d (omega arith)
-
-pub there_get : {X : Type 0} (xs : List X) (k : ℕ) (x d : X) → slice_get xs k ≡ Some x → (k < length xs) × (get_or xs k d ≡ x)
-there_get [] k x d at = absurd (cc)
-there_get (y ∷ xs) zero x d at = let same : y ≡ x = cc in (omega arith, same)
-there_get (y ∷ xs) (suc k) x d at = let rest = there_get xs k x d at in (omega (arith, rest.0), rest.1)
-
-pub all_at : {X : Type 0} (P : X → Type 0) (xs : List X) (x : X) → All P xs → Contains xs x → P x
-all_at P xs x all (k, lt, is) = subst P is (all k x lt)
+pub only_one : {X : Type 0} (x y : X) → Contains (x ∷ []) y → x ≡ y
+only_one x y (zero, lt, is) = is
+only_one x y (suc k, lt, is) = absurd (omega arith)
 
 pub contains_filter : {X : Type 0} (p : X → Bool) (xs : List X) (i : ℕ) (x : X) → slice_get xs i ≡ Some x → p x ≡ true → Contains (filter p xs) x
 contains_filter p [] i x at passes = absurd (cc)
@@ -56,7 +48,7 @@ filter_contains {X} p (y ∷ xs) x among = by_case (p y) refl among (filter_cont
 pub all_filter : {X : Type 0} (P : X → Type 0) (p : X → Bool) (xs : List X) → All P xs → All P (filter p xs)
 all_filter P p xs all = λ k d lt.
     let found = filter_contains p xs (get_or (filter p xs) k d) (contains_at (filter p xs) k d lt) in
-    all_at P xs (get_or (filter p xs) k d) all (contains_get xs found.0 (get_or (filter p xs) k d) found.1)
+    All-contains P xs (get_or (filter p xs) k d) all (contains_get xs found.0 (get_or (filter p xs) k d) found.1)
 
 pub all_pass : {X : Type 0} (p : X → Bool) (xs : List X) → All (λ x. p x ≡ true) (filter p xs)
 all_pass p xs = λ k d lt. (filter_contains p xs (get_or (filter p xs) k d) (contains_at (filter p xs) k d lt)).2

@@ -5,6 +5,7 @@ use Rattle.std.proofs.lemmas.List.Elements.{All-contains}
 use Rattle.capture_terms.specs.Datagram.{is_member, IsWholeAt, IsGroupAt}
 use Rattle.capture_terms.specs.Groups.{LeastIsFirst}
 use Rattle.capture_terms.specs.declared.plan.Task.{Task}
+use Rattle.capture_terms.proofs.Filters.{only_one}
 
 -- the first that passes is the one at the least place
 filter_first : (p : Task → Bool) (tasks : List Task) (least : ℕ) (first : Task) → slice_get tasks least ≡ Some first → p first ≡ true
@@ -23,13 +24,9 @@ whole_first : (tasks : List Task) (numbers : List ℕ) (datagram : List Task) (l
     → Contains numbers least → slice_get tasks least ≡ Some first → (others : List Task) × (datagram ≡ first ∷ others)
 whole_first tasks numbers datagram least first w among at = ([], w.is ∙ ap (λ (t : Task). t ∷ []) same)
   where
-    only : (number : ℕ) → Contains (number ∷ []) least → number ≡ least
-    only number (zero, lt, is) = is
-    only number (suc k, lt, is) = absurd (omega arith)
-
     same : w.task ≡ first
     same =
-        let number : w.number ≡ least = only w.number (subst (λ (l : List ℕ). Contains l least) w.alone among) in
+        let number : w.number ≡ least = only_one w.number least (subst (λ (l : List ℕ). Contains l least) w.alone among) in
         let there : Some w.task ≡ Some first = sym w.there ∙ (ap (slice_get tasks) number ∙ at) in
         cc
 

@@ -8,6 +8,7 @@ use Rattle.std.proofs.lemmas.List.{append-nil}
 use Rattle.std.proofs.lemmas.List.Elements.{All-push, Contains-append_left, Contains-append_right, Contains-push}
 use Rattle.std.proofs.lemmas.List.Quantifiers.{all_pairs_push, position-Some}
 use Rattle.std.proofs.lemmas.List.Sums.{position_or_len_is}
+use Rattle.std.proofs.lemmas.Option.{slice_get-get_or}
 use Rattle.capture_terms.specs.declared.capture.Capture.{Capture}
 use Rattle.capture_terms.specs.declared.datagram.Class.{Class}
 use Rattle.capture_terms.specs.declared.datagram.Class.TheVariants as class
@@ -21,7 +22,7 @@ use Rattle.capture_terms.specs.Kept.{group_of, is_same_group, classes_of, kept_o
 use Rattle.capture_terms.specs.Plan.{group_number, with_group_of, groups_among, groups_of, task_of, task_at, tasks_from, tasks_of, kinds_of, IsClassifiable, IsPlan}
 use Rattle.capture_terms.specs.Datagram.{end_of_task, size_of, is_member, members}
 use Rattle.capture_terms.specs.Groups.{AreNotBothLast, AreGrouped}
-use Rattle.capture_terms.proofs.Filters.{get_there, contains_filter}
+use Rattle.capture_terms.proofs.Filters.{contains_filter}
 use Rattle.capture_terms.proofs.Places.{packed_most}
 use Rattle.capture_terms.proofs.PlanLaw.{packed_before, packed_short, plan_kinds, tasks_fine, tasks_together}
 use Rattle.capture_terms.proofs.PlanSound.{TaskSound}
@@ -142,7 +143,7 @@ plan_inhabited kinds number lt =
 -- What the tasks of one group have.
 
 pub member_of : (tasks : List Task) (number k : ℕ) (d : Task) → k < length tasks → (get_or tasks k d).group ≡ Some number → Contains (members tasks number) (get_or tasks k d)
-member_of tasks number k d lt at = contains_filter (is_member number) tasks k (get_or tasks k d) (get_there tasks k d lt) (ap (λ (o : Option ℕ). option_map_or (λ group. group == number) o false) at ∙ eq-eqb number number refl)
+member_of tasks number k d lt at = contains_filter (is_member number) tasks k (get_or tasks k d) (slice_get-get_or tasks k d lt) (ap (λ (o : Option ℕ). option_map_or (λ group. group == number) o false) at ∙ eq-eqb number number refl)
 
 module _ (bytes : List ℕ) (groups : List Group) (tasks : List Task) (sound : All (TaskSound (length bytes)) tasks) (together : AllPairs (Together groups) tasks) where
   not_both_last : (s t : Task) → 0 < s.length → 0 < t.length → s.last ≡ true → t.last ≡ true → Fits s t → ⊥

@@ -6,7 +6,7 @@ use Rattle.std.specs.Option.{option_map_or}
 use Rattle.std.proofs.lemmas.Bool.{cases_eq, cases_lt}
 use Rattle.std.proofs.lemmas.Bool.Decides.{nat_tests}
 use Rattle.std.proofs.lemmas.List.{get_or_default, get_or-take, get_or-drop, length-take-le}
-use Rattle.std.proofs.lemmas.List.Elements.{All-map}
+use Rattle.std.proofs.lemmas.List.Elements.{All-contains, All-map}
 use Rattle.std.proofs.lemmas.List.Folds.{list_any_none, list_any-append}
 use Rattle.std.proofs.lemmas.List.Kept.{AllPairs-filter}
 use Rattle.std.proofs.lemmas.List.Sums.{fails_before_first}
@@ -25,7 +25,7 @@ use Rattle.capture_terms.specs.Classes.{kind_of}
 use Rattle.capture_terms.specs.Kept.{group_of, is_same_group, classes_of, kept_of, kept_among, kept_piece}
 use Rattle.capture_terms.specs.Plan.{group_number, with_group_of, groups_of, task_of, task_at, tasks_from, tasks_of, kinds_of, IsClassifiable, IsPlan}
 use Rattle.capture_terms.specs.Datagram.{ArePacked, end_of_task, size_of, is_member, members, is_complete, IsWholeAt, IsDatagramAt, IsSound, holds, byte_at, payload_of}
-use Rattle.capture_terms.proofs.Filters.{contains_get, all_at, all_filter, all_pass, any_found}
+use Rattle.capture_terms.proofs.Filters.{contains_get, all_filter, all_pass, any_found}
 use Rattle.capture_terms.proofs.PlanSound.{KindSound, kind_sound, TaskSound}
 use Rattle.capture_terms.proofs.PlanTasks.{Together, together_all, Fits, with_option, All-cons, pairs_with_option}
 
@@ -110,7 +110,7 @@ member_group number t is = by_case t.group is
 module _ (bytes : List ℕ) (groups : List Group) (tasks : List Task) (sound : All (TaskSound (length bytes)) tasks) (together : AllPairs (Together groups) tasks) where
   whole_sound : (numbers : List ℕ) (datagram : List Task) → IsWholeAt tasks numbers datagram → IsSound bytes datagram
   whole_sound numbers datagram w =
-      let fine : TaskSound (length bytes) w.task = all_at (TaskSound (length bytes)) tasks w.task sound (contains_get tasks w.number w.task w.there) in
+      let fine : TaskSound (length bytes) w.task = All-contains (TaskSound (length bytes)) tasks w.task sound (contains_get tasks w.number w.task w.there) in
       let start : w.task.start ≡ 0 = fine.whole w.whole in
       subst (IsSound bytes) (sym w.is) (record {
         there = All-cons (λ (t : Task). t.from + t.length ≤ length bytes) w.task [] fine.there (λ k d lt. absurd (omega arith));
@@ -169,7 +169,7 @@ module _ (bytes : List ℕ) (groups : List Group) (tasks : List Task) (sound : A
       group_sound =
           let l = last_one in
           let end : size_of (members tasks number) ≡ end_of_task l.0 = l.3 in
-          let most : TaskSound (length bytes) l.0 = all_at (TaskSound (length bytes)) (members tasks number) l.0 fine l.1 in
+          let most : TaskSound (length bytes) l.0 = All-contains (TaskSound (length bytes)) (members tasks number) l.0 fine l.1 in
           record {
             there = λ k d lt. (fine k d lt).there;
             packed = subst (λ (n : ℕ). ArePacked n (members tasks number)) (sym end) (packed_before l.0 l.1 l.2);
@@ -245,7 +245,7 @@ module _ (groups : List Group) where
       (frames_ascend (n + 1) classes kinds)
     where
       one_frame : (t : Task) → task_at groups n c k ≡ Some t → t.frame ≡ n
-      one_frame t is = all_at (λ (u : Task). u.frame ≡ n) (option_to_list (task_at groups n c k)) t (head_frame n c k) (rw is (0, omega arith, refl))
+      one_frame t is = All-contains (λ (u : Task). u.frame ≡ n) (option_to_list (task_at groups n c k)) t (head_frame n c k) (rw is (0, omega arith, refl))
 
 pub plan_ascends : (bytes : List ℕ) (capture : Capture) (plan : Plan) → IsPlan bytes capture plan → AllPairs (λ (s t : Task). s.frame < t.frame) plan.tasks.items
 unfolding tasks_of

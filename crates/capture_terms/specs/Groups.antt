@@ -1,5 +1,5 @@
--- What a plan keeps of its groups, and with which task a datagram begins.
-use Rattle.std.specs.Prelude.{◌≡◌, ℕ, ◌<◌, ◌≤◌, true, List, ◌∷◌, length, slice_get, Some, All, AllPairs, Contains}
+-- What a plan keeps of its groups, and what the numbers by which a datagram is asked for say of its tasks.
+use Rattle.std.specs.Prelude.{◌≡◌, ℕ, ◌<◌, ◌≤◌, true, List, ◌∷◌, length, slice_get, Some, All, AllPairs, Contains, IsSomeAnd}
 use Rattle.capture_terms.specs.declared.plan.Group.{Group}
 use Rattle.capture_terms.specs.declared.plan.Task.{Task}
 use Rattle.capture_terms.specs.Datagram.{end_of_task, size_of, members, IsDatagramAt}
@@ -25,3 +25,12 @@ pub record AreGrouped (tasks : List Task) (groups : List Group) : Type 0 where
 abbrev pub LeastIsFirst : Type 0
 LeastIsFirst = (tasks : List Task) (numbers : List ℕ) (datagram : List Task) (least : ℕ) (first : Task) → IsDatagramAt tasks numbers datagram
     → Contains numbers least → All (λ number. least ≤ number) numbers → slice_get tasks least ≡ Some first → (others : List Task) × (datagram ≡ first ∷ others)
+
+-- the numbers are those of the datagram's tasks, in any order
+pub record AreNumbersOf (tasks : List Task) (numbers : List ℕ) (datagram : List Task) : Type 0 where
+  pub each : (number : ℕ) → Contains numbers number → IsSomeAnd (slice_get tasks number) (Contains datagram)
+  pub all : (task : Task) → Contains datagram task → (number : ℕ) × (slice_get tasks number ≡ Some task) × Contains numbers number
+
+-- a datagram is asked for by the numbers of its tasks
+abbrev pub NumbersAreOfTasks : Type 0
+NumbersAreOfTasks = (tasks : List Task) (numbers : List ℕ) (datagram : List Task) → IsDatagramAt tasks numbers datagram → AreNumbersOf tasks numbers datagram

@@ -7,7 +7,8 @@ use Rattle.std.proofs.lemmas.List.{get_or_default}
 use Rattle.std.proofs.lemmas.List.Sums.{sum_by-cons}
 use Rattle.std.proofs.lemmas.List.FromFn.{length-map-range_with_len, get_or-map-range_with_len}
 use Rattle.std.proofs.lemmas.Grind.{same_number_lists}
-use Rattle.capture_terms.specs.Datagram.{holds, end_of_task, AreApart, ArePacked, size_of, byte_at, payload_of, IsSound, IsDatagramAt, IsWholeAt, IsGroupAt, is_member}
+use Rattle.capture_terms.specs.Datagram.{holds, end_of_task, AreApart, ArePacked, size_of, byte_at, payload_of, IsSound}
+use Rattle.capture_terms.specs.Groups.{AreNumbersOf}
 use Rattle.capture_terms.specs.declared.plan.Task.{Task}
 use Rattle.ipv4_fragments.specs.Payload.{byte_of, Stands, Agree, AreThere, end_at}
 use Rattle.ipv4_fragments.proofs.Copies.{some_and}
@@ -48,70 +49,10 @@ held_by (t ∷ tasks) place one = by_case (holds place t) refl (held_by tasks pl
         let tail : count_by (holds place) tasks ≡ 1 = omega (arith, more, none, one) in
         later away (rest tail)
 
--- the numbers are those of the datagram's tasks
-pub record Names (tasks : List Task) (numbers : List ℕ) (datagram : List Task) : Type 0 where
-  pub each : (number : ℕ) → Contains numbers number → IsSomeAnd (slice_get tasks number) (Contains datagram)
-  pub all : (task : Task) → Contains datagram task → (number : ℕ) × (slice_get tasks number ≡ Some task) × Contains numbers number
-
-only_one : {X : Type 0} (x y : X) → Contains (x ∷ []) y → x ≡ y
-only_one x y (zero, lt, is) = is
-only_one x y (suc k, lt, is) = absurd (omega arith)
-
-contains_filter : {X : Type 0} (p : X → Bool) (xs : List X) (i : ℕ) (x : X) → slice_get xs i ≡ Some x → p x ≡ true → Contains (filter p xs) x
-contains_filter p [] i x at passes = absurd (cc)
-contains_filter {X} p (y ∷ xs) zero x at passes =
-    let same : y ≡ x = cc in
-    rw (ap p same ∙ passes) (0, omega arith, same)
-contains_filter {X} p (y ∷ xs) (suc i) x at passes = by_case (p y) refl (contains_filter p xs i x at passes)
-  where
-    by_case : (b : Bool) → p y ≡ b → Contains (filter p xs) x → Contains (filter p (y ∷ xs)) x
-    by_case true here among = rw here (suc among.0, omega (arith, among.1), among.2)
-    by_case false away among = rw away among
-
-filter_contains : {X : Type 0} (p : X → Bool) (xs : List X) (x : X) → Contains (filter p xs) x → (i : ℕ) × (slice_get xs i ≡ Some x) × (p x ≡ true)
-filter_contains p [] x among = absurd (omega (arith, among.1))
-filter_contains {X} p (y ∷ xs) x among = by_case (p y) refl among (filter_contains p xs x)
-  where
-    first : (k : ℕ) → k < length (y ∷ filter p xs) → get_or (y ∷ filter p xs) k x ≡ x → p y ≡ true → (Contains (filter p xs) x → (i : ℕ) × (slice_get xs i ≡ Some x) × (p x ≡ true)) → (i : ℕ) × (slice_get (y ∷ xs) i ≡ Some x) × (p x ≡ true)
-    first zero lt is here rest = (0, ap Some is, ap p (sym is) ∙ here)
-    first (suc k) lt is here rest = let found = rest (k, omega arith, is) in (suc found.0, found.1, found.2)
-
-    by_case : (b : Bool) → p y ≡ b → Contains (filter p (y ∷ xs)) x → (Contains (filter p xs) x → (i : ℕ) × (slice_get xs i ≡ Some x) × (p x ≡ true)) → (i : ℕ) × (slice_get (y ∷ xs) i ≡ Some x) × (p x ≡ true)
-    by_case true here among rest =
-        let inside : Contains (y ∷ filter p xs) x = (rw here at among) in
-        first inside.0 inside.1 inside.2 here rest
-    by_case false away among rest =
-        let inside : Contains (filter p xs) x = (rw away at among) in
-        let found = rest inside in
-        (suc found.0, found.1, found.2)
-
-pub names_from : (tasks : List Task) (numbers : List ℕ) (datagram : List Task) → IsDatagramAt tasks numbers datagram → Names tasks numbers datagram
-names_from tasks numbers datagram at = elim at [ inl one ↦ whole one | inr group ↦ grouped group ]
-  where
-    whole : IsWholeAt tasks numbers datagram → Names tasks numbers datagram
-    whole w = record {
-      each = λ number among.
-          let same : w.number ≡ number = only_one w.number number (subst (λ (l : List ℕ). Contains l number) w.alone among) in
-          subst (λ (n : ℕ). IsSomeAnd (slice_get tasks n) (Contains datagram)) same (rw w.there (subst (λ (l : List Task). Contains l w.task) (sym w.is) (0, omega arith, refl)));
-      all = λ task among.
-          let same : w.task ≡ task = only_one w.task task (subst (λ (l : List Task). Contains l task) w.is among) in
-          (w.number, w.there ∙ ap Some same, subst (λ (l : List ℕ). Contains l w.number) (sym w.alone) (0, omega arith, refl));
-    }
-
-    grouped : IsGroupAt tasks numbers datagram → Names tasks numbers datagram
-    grouped g = record {
-      each = λ number among.
-          let found = some_and (λ task. is_member g.group task ≡ true) (slice_get tasks number) (subst (λ (n : ℕ). IsSomeAnd (slice_get tasks n) (λ task. is_member g.group task ≡ true)) among.2 (g.each among.0 number among.1)) in
-          rw found.1 (subst (λ (l : List Task). Contains l found.0) (sym g.is) (contains_filter (is_member g.group) tasks number found.0 found.1 found.2));
-      all = λ task among.
-          let found = filter_contains (is_member g.group) tasks task (subst (λ (l : List Task). Contains l task) g.is among) in
-          (found.0, found.1, g.all found.0 task found.1 found.2);
-    }
-
 named_at : {X : Type 0} (o : Option X) (P : X → Type 0) (x : X) → IsSomeAnd o P → o ≡ Some x → P x
 named_at o P x here is = rw is at here
 
-module _ (bytes : List ℕ) (tasks : List Task) (numbers : List ℕ) (datagram : List Task) (names : Names tasks numbers datagram) (sound : IsSound bytes datagram) where
+module _ (bytes : List ℕ) (tasks : List Task) (numbers : List ℕ) (datagram : List Task) (names : AreNumbersOf tasks numbers datagram) (sound : IsSound bytes datagram) where
   pub agree : Agree bytes tasks numbers
   agree place n m s t among_n among_m at_s at_t in_s in_t =
       ap (λ (k : Task). byte_of bytes k place) (same_holder datagram sound.packed.apart s t (named_at (slice_get tasks n) (Contains datagram) s (names.each n among_n) at_s) (named_at (slice_get tasks m) (Contains datagram) t (names.each m among_m) at_t) place in_s in_t)

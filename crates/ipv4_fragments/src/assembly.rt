@@ -5,7 +5,7 @@ ghost use Rattle.capture_terms.specs.Datagram.{holds, end_of_task, payload_of, I
 ghost use Rattle.capture_terms.specs.Plan.{IsClassifiable, IsPlan};
 ghost use Rattle.ipv4_fragments.specs.Payload.{byte_of, end_at, IsThere, AreThere, Agree, Stands};
 
-use capture_terms::{Plan, Task, datagram_law, packing_law};
+use capture_terms::{Plan, Task, datagram_law, numbers_law, packing_law};
 use std::alloc::{AllocError, Global};
 
 // Copies the data of a task to its place.
@@ -84,6 +84,7 @@ pub fn payload(
     ensures short { IfOk result (λ payload. length payload.items ≤ 65535) }
 {
     packing_law();
+    numbers_law();
     datagram_law();
     let whole = assembled(alloc, &plan.tasks, tasks, bytes)?;
     Ok(whole)

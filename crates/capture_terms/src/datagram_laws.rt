@@ -1,6 +1,7 @@
 ghost use Rattle.std.specs.Prelude.{◌≡◌, ◌↔◌, ℕ, ◌<◌, ◌≤◌, List, count_by, sum_by, All, AllPairs, length, take, drop, None, [], ◌∷◌, ◌+◌};
 ghost use Rattle.capture_terms.specs.declared.plan.Task.{Task};
 ghost use Rattle.capture_terms.specs.Datagram.{ArePacked, holds, end_of_task, payload_of, IsDatagramAt, IsSound};
+ghost use Rattle.capture_terms.specs.Groups.{NumbersAreOfTasks};
 ghost use Rattle.capture_terms.specs.Plan.{IsClassifiable, IsPlan};
 ghost use Rattle.capture_terms.specs.declared.capture.Capture.{Capture};
 ghost use Rattle.capture_terms.specs.declared.plan.Plan.{Plan};
@@ -15,6 +16,11 @@ pub fn packing_law()
 /// The tasks of a plan's datagram lie in the file and fill its data.
 pub fn datagram_law()
     ensures { (bytes : List ℕ) (capture : Capture) (plan : Plan) (numbers : List ℕ) (datagram : List Task) → IsClassifiable bytes capture → IsPlan bytes capture plan → IsDatagramAt plan.tasks.items numbers datagram → IsSound bytes datagram }
+{}
+
+/// The numbers by which a datagram is asked for are those of its tasks, and of no others.
+pub fn numbers_law()
+    ensures { NumbersAreOfTasks }
 {}
 
 /// Each task's data lies in the file, the tasks stand in the order of their frames, and the data of a

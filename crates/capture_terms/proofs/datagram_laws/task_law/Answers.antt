@@ -1,5 +1,5 @@
 use Rattle.capture_terms.proofs.PlanLaw.{tasks_inside, whole_payload, plan_ascends}
-use Rattle.capture_terms.proofs.packing.task_law.Goals as goal
+use Rattle.capture_terms.proofs.datagram_laws.task_law.Goals as goal
 
 pub returns-clause-inside : goal.returns-clause-inside
 returns-clause-inside c = λ bytes capture plan fine is k d lt. (tasks_inside bytes capture plan fine is k d lt).there

@@ -1,5 +1,5 @@
 use Rattle.capture_terms.proofs.Places.{packed_most, packed_exact}
-use Rattle.capture_terms.proofs.packing.packing_law.Goals as goal
+use Rattle.capture_terms.proofs.datagram_laws.packing_law.Goals as goal
 
 pub returns-clause-most : goal.returns-clause-most
 returns-clause-most c = packed_most
