@@ -1,10 +1,10 @@
-ghost use Rattle.std.specs.Prelude.{ℕ, ◌+◌, ◌<◌, ◌^◌, length, List};
+ghost use Rattle.std.specs.Prelude.{ℕ, ◌+◌, ◌<◌, ◌^◌, [], ◌∷◌, length, List, IsTrue, IsSomeAnd, ◌≡◌};
 ghost use Rattle.capture_terms.specs.declared.plan.Task.{Task};
 ghost use Rattle.capture_terms.specs.Datagram.{IsDatagramAt};
 ghost use Rattle.capture_terms.specs.Plan.{IsClassifiable, IsPlan};
 
 use crate::{classify, payload};
-use capture_terms::{Capture, Class, Plan};
+use capture_terms::{Capture, Class, Plan, Task};
 use pcap_frames::frames;
 use std::alloc::{AllocError, Global};
 use std::process::Abort;
@@ -254,5 +254,57 @@ fn gives_the_data_of_a_whole_datagram(rt: HostRuntime) -> Result<(), Fail> {
         data.as_slice(),
         b"\x0f\xa0\x00\x35\x00\x0d\x00\x00hello".as_slice()
     );
+    Ok(())
+}
+
+fn is_in_first_group(task: &Task) -> bool
+    ensures { IsTrue result → IsSomeAnd task.now.group (λ group. group ≡ 0) }
+{
+    match task.group {
+        Some(group) => group == 0,
+        None => false,
+    }
+}
+
+// Whether two tasks of one group make up a datagram, and the first ends it behind the other.
+#[tactic(auto, using(crate::proofs::Pairs::pair_is_datagram))]
+fn make_up(end: &Task, front: &Task) -> bool
+    ensures { IsTrue result → IsDatagramAt (end.now ∷ front.now ∷ []) (1 ∷ 0 ∷ []) (end.now ∷ front.now ∷ []) }
+{
+    if !end.last {
+        return false;
+    }
+    if end.start != front.length {
+        return false;
+    }
+    if !is_in_first_group(end) {
+        return false;
+    }
+    is_in_first_group(front)
+}
+
+#[tactic(auto, using(crate::proofs::Pairs::pair_is_all))]
+fn are_end_and_front(tasks: &[Task]) -> bool
+    ensures { IsTrue result → IsDatagramAt tasks.now (1 ∷ 0 ∷ []) tasks.now }
+{
+    if tasks.len() != 2 {
+        return false;
+    }
+    make_up(&tasks[0], &tasks[1])
+}
+
+#[test]
+fn gives_the_data_of_a_group_in_any_order_of_its_tasks(rt: HostRuntime) -> Result<(), Fail> {
+    let alloc = rt.alloc();
+    let mut file = ETHERNET.to_vec(alloc)?;
+    add_fragment(&mut file, &(1, 8, false, b"ijkl".as_slice()))?;
+    add_fragment(&mut file, &(1, 0, true, b"abcdefgh".as_slice()))?;
+    let bytes = file.as_slice();
+    let capture = frames(alloc, bytes).ok().ok_or("a capture")?;
+    let plan = classify(alloc, &capture, bytes)?;
+    let are_both = are_end_and_front(&plan.tasks);
+    assert!(rt; are_both);
+    let data = data_of(alloc, &capture, &plan, bytes, &[1, 0])?;
+    assert_eq!(rt; data.as_slice(), b"abcdefghijkl".as_slice());
     Ok(())
 }
