@@ -6,6 +6,7 @@ use Rattle.std.proofs.Math.Seq.{get_or-append_seam}
 use Rattle.std.proofs.lemmas.Bool.{false_from_ne_true}
 use Rattle.std.proofs.lemmas.List.Quantifiers.{all_pairs_push}
 use Rattle.rule_terms.specs.Rule.{Rule}
+use Rattle.rule_matcher.specs.Names.{IsTaken}
 use Rattle.rule_terms.specs.RuleText.{lines_of, onto_first, read_line, AreNamedApart, IsRuleText, name_at}
 
 pub lines_cut : (text : List ℕ) (i : ℕ) → i < length text → ((k : ℕ) → k < i → eqb (get_or text k 0) 10 ≡ true → ⊥) → eqb (get_or text i 0) 10 ≡ true → lines_of text ≡ take i text ∷ lines_of (drop (suc i) text)
@@ -46,10 +47,6 @@ reads_more text rest behind line rules rule before cut is = record {
   each = map-append read_line before.lines (line ∷ []) ∙ ap (λ (l : List (Option Rule)). l ++ read_line line ∷ []) before.each
       ∙ ap (λ (o : Option Rule). all_some rules ++ o ∷ []) is ∙ sym (map-append (λ (r : Rule). Some r) rules (rule ∷ []));
 }
-
--- one of the rules has the name
-abbrev pub IsTaken : List ℕ → List Rule → Type 0
-IsTaken name rules = Any (λ (r : Rule). r.name ≡ name) rules
 
 pub apart_more : (rules : List Rule) (rule : Rule) → AllPairs AreNamedApart rules → ¬ IsTaken rule.name rules → AllPairs AreNamedApart (rules ++ rule ∷ [])
 apart_more rules rule apart new = all_pairs_push AreNamedApart rules rule apart (λ k d within same. new (k, get_or rules k d, within, at_place rules k d within, same))

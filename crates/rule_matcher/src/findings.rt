@@ -1,6 +1,8 @@
 // What the rules find in a datagram.
-ghost use Rattle.std.specs.Prelude.{◌≡◌, ℕ, ◌<◌, ◌≤◌, ◌++◌, length, IfOk, OnOk, IfSome};
+ghost use Rattle.std.specs.Prelude.{◌≡◌, ℕ, ◌<◌, ◌≤◌, ◌++◌, List, [], false, length, IfOk, OnOk, IfSome};
+ghost use Rattle.std.specs.List.{list_any};
 ghost use Rattle.rule_terms.specs.Match as term;
+ghost use Rattle.rule_terms.specs.Rule as rule_term;
 
 use crate::rule_list::{Pattern, Rule, Rules};
 use byteorder::{BigEndian, ByteOrder};
@@ -26,6 +28,23 @@ pub fn findings_of(
     ensures findings { IfOk result (λ found. found.items ≡ term.findings_of rules.now header.now payload.now) }
 {
     found_by(alloc, rules.as_slice(), header, payload)
+}
+
+/// Whether some rule looks into datagrams of this header, as far as its protocol tells. Where none
+/// does, nothing is found in them, whatever their payload is.
+pub fn any_asks_for(rules: &Rules, header: &Header) -> bool
+    ensures asked { result ≡ list_any (λ (rule : rule_term.Rule). term.is_protocol rule.protocol header.now.protocol) rules.now }
+    ensures nothing { result ≡ false → (payload : List ℕ) → term.findings_of rules.now header.now payload ≡ [] }
+{
+    any_has_protocol(rules.as_slice(), header.protocol)
+}
+
+fn any_has_protocol(rules: &[Rule], protocol: u8) -> bool
+    ensures { result ≡ list_any (λ (rule : rule_term.Rule). term.is_protocol rule.protocol protocol) rules.now }
+{
+    rules
+        .iter()
+        .any(|rule| has_protocol(rule.protocol, protocol))
 }
 
 fn found_by(

@@ -10,7 +10,7 @@ mod line;
 mod reading;
 mod rule_list;
 
-pub use findings::findings_of;
+pub use findings::{any_asks_for, findings_of};
 pub use reading::rules;
 pub use rule_list::{Rules, RulesEnd};
 

@@ -1,14 +1,16 @@
 // A text of rules, line by line.
-ghost use Rattle.std.specs.Prelude.{◌≡◌, ◌↔◌, ℕ, ◌<◌, List, [], ◌∷◌, ◌++◌, length, IsTrue, IfOk, IfErr, OnOk, IsErrOf, Any};
+ghost use Rattle.std.specs.Prelude.{◌≡◌, ◌↔◌, ℕ, ◌<◌, List, [], ◌∷◌, ◌++◌, length, IsTrue, IfOk, IfErr, OnOk, IsErrOf, false};
 ghost use Rattle.rule_terms.specs.Rule as term;
 ghost use Rattle.rule_terms.specs.RuleText.{lines_of, without_return, IsRuleText};
 ghost use Rattle.rule_matcher.specs.Line.{rule_of};
+ghost use Rattle.rule_matcher.specs.Names.{IsTaken, AreNamesOf};
 ghost use Rattle.rule_matcher.specs.declared.rule_list.RulesEnd.TheVariants as end;
 
 use crate::line::{Line, rule_line};
 use crate::rule_list::{Pattern, Rule, Rules, RulesEnd};
 use memchr::memchr;
 use std::alloc::{AllocError, Global};
+use std::collections::BTreeSet;
 
 const MAX_RULES: usize = 1024;
 
@@ -20,6 +22,7 @@ pub fn rules(alloc: Global, text: &[u8]) -> Result<Rules, RulesEnd>
     ensures unbuilt { IsErrOf result end.Unbuilt → (rules : List term.Rule) → IsRuleText text.now rules → ⊥ }
 {
     let mut rules = Vec::new(alloc);
+    let mut names = BTreeSet::new(alloc);
     let mut rest = text;
     while !rest.is_empty() {
         let (line, behind) = first_line(rest);
@@ -29,7 +32,8 @@ pub fn rules(alloc: Global, text: &[u8]) -> Result<Rules, RulesEnd>
         if rules.len() >= MAX_RULES {
             return Err(RulesEnd::Unbuilt);
         }
-        if is_taken(&rules, found.name) {
+        let is_new = add_name(&mut names, found.name)?;
+        if !is_new {
             return Err(RulesEnd::Unbuilt);
         }
         push_rule(alloc, &mut rules, found)?;
@@ -61,16 +65,16 @@ fn cut_return(line: &[u8]) -> &[u8]
     }
 }
 
-fn is_taken(rules: &[Rule], name: &[u8]) -> bool
-    ensures { IsTrue result ↔ Any (λ (r : term.Rule). r.name ≡ name.now) rules.now }
+// Adds the name of a further rule, and tells whether no rule before it has it.
+fn add_name<'a>(names: &mut BTreeSet<&'a [u8]>, name: &'a [u8]) -> Result<bool, RulesEnd>
+    ensures new { IfOk result (λ is_new. (rules : List term.Rule) → AreNamesOf names.old rules → (is_new ≡ false) ↔ IsTaken name.now rules) }
+    ensures added { OnOk result ((rules : List term.Rule) (rule : term.Rule) → AreNamesOf names.old rules → rule.name ≡ name.now → AreNamesOf names.new (rules ++ rule ∷ [])) }
+    ensures memory { IfErr result (λ e. e ≡ end.Memory) }
 {
-    rules.iter().any(|rule| has_name(rule, name))
-}
-
-fn has_name(rule: &Rule, name: &[u8]) -> bool
-    ensures { IsTrue result ↔ (rule.now.name ≡ name.now) }
-{
-    rule.name.as_slice() == name
+    match names.insert(name) {
+        Ok(is_new) => Ok(is_new),
+        Err(_) => Err(RulesEnd::Memory),
+    }
 }
 
 fn push_rule(alloc: Global, rules: &mut Vec<Rule>, line: Line<'_>) -> Result<(), RulesEnd>

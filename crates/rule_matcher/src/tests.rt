@@ -1,4 +1,4 @@
-use crate::{RulesEnd, findings_of, rules};
+use crate::{RulesEnd, any_asks_for, findings_of, rules};
 use capture_terms::Header;
 use std::alloc::Global;
 use std::process::Abort;
@@ -188,5 +188,26 @@ fn a_rule_has_its_name(rt: HostRuntime) -> Result<(), Fail> {
     )?;
     assert_eq!(rt; rules.len(), 2);
     assert_eq!(rt; rules.name(1), b"two".as_slice());
+    Ok(())
+}
+
+#[test]
+fn a_protocol_that_no_rule_asks_for_is_told(rt: HostRuntime) -> Result<(), Fail> {
+    let alloc = rt.alloc();
+    let some = rules(
+        alloc,
+        b"rule one proto icmp has \"ijkl\"\nrule two proto udp has \"XXXX\"",
+    )?;
+    let any = rules(alloc, b"rule one proto any has \"ijkl\"")?;
+    let none = rules(alloc, b"")?;
+    for (protocol, want) in [(1, [true, true]), (17, [true, true]), (6, [false, true])] {
+        let header = Header {
+            source: 0x0a00_0001,
+            destination: 0xc000_0201,
+            protocol,
+        };
+        assert_eq!(rt; [any_asks_for(&some, &header), any_asks_for(&any, &header)], want);
+        assert!(rt; !any_asks_for(&none, &header));
+    }
     Ok(())
 }
