@@ -2,8 +2,8 @@
 use Rattle.std.specs.Prelude.{ℕ, ◌+◌, ◌-◌, ◌/◌, ◌%◌, ◌^◌, Bool, true, false, List, [], ◌∷◌, ◌++◌, length, map, codes, count_by}
 use Rattle.std.specs.List.{flat_map}
 use Rattle.std.specs.Fmt.{decimal}
-use Rattle.capture_terms.specs.declared.capture.Capture.{Capture}
-use Rattle.capture_terms.specs.declared.plan.Plan.{Plan}
+use Rattle.capture_terms.specs.Capture.{Contents}
+use Rattle.capture_terms.specs.declared.plan.Group.{Group}
 use Rattle.capture_terms.specs.declared.datagram.Class.{Class}
 use Rattle.capture_terms.specs.declared.datagram.Class.TheVariants.{Other, Bad, Cut, Whole, Kept, Aside}
 use Rattle.rule_terms.specs.Rule.{Rule}
@@ -29,26 +29,23 @@ is_class Kept Kept = true
 is_class Aside Aside = true
 is_class wanted class = false
 
--- how many frames of the plan have this class
-abbrev pub frames_of : Class → Plan → ℕ
-frames_of wanted plan = count_by (λ class. is_class wanted class) plan.classes.items
+-- how many frames have this class, among those of these classes
+abbrev pub frames_of : Class → List Class → ℕ
+frames_of wanted classes = count_by (λ class. is_class wanted class) classes
 
--- whole frames, and groups that are complete
-abbrev pub datagrams_of : Plan → ℕ → ℕ
-datagrams_of plan incomplete = frames_of Whole plan + (length plan.groups.items - incomplete)
-
--- what is counted, by its word, in the order of the lines
-unfoldable pub counts_of : Capture → Plan → ℕ → ℕ → List (List ℕ × ℕ)
-counts_of capture plan incomplete findings =
-    (codes "frames", length capture.frames.items)
-    ∷ (codes "other", frames_of Other plan)
-    ∷ (codes "bad", frames_of Bad plan)
-    ∷ (codes "cut", frames_of Cut plan)
-    ∷ (codes "whole", frames_of Whole plan)
-    ∷ (codes "kept", frames_of Kept plan)
-    ∷ (codes "aside", frames_of Aside plan)
-    ∷ (codes "torn", capture.torn)
-    ∷ (codes "datagrams", datagrams_of plan incomplete)
+-- what is counted of a capture, by its word, in the order of the lines; the datagrams are the whole
+-- frames and the groups that are complete
+unfoldable pub counts_of : Contents → List Class → List Group → ℕ → ℕ → List (List ℕ × ℕ)
+counts_of contents classes groups incomplete findings =
+    (codes "frames", length contents.frames)
+    ∷ (codes "other", frames_of Other classes)
+    ∷ (codes "bad", frames_of Bad classes)
+    ∷ (codes "cut", frames_of Cut classes)
+    ∷ (codes "whole", frames_of Whole classes)
+    ∷ (codes "kept", frames_of Kept classes)
+    ∷ (codes "aside", frames_of Aside classes)
+    ∷ (codes "torn", contents.torn)
+    ∷ (codes "datagrams", frames_of Whole classes + (length groups - incomplete))
     ∷ (codes "incomplete", incomplete)
     ∷ (codes "findings", findings)
     ∷ []
@@ -70,6 +67,7 @@ place_of finding = finding % 2 ^ 16
 abbrev pub finding_line : List Rule → ℕ → Line
 finding_line rules finding = codes "finding " ++ decimal (frame_of finding) ++ 32 ∷ name_at rules (rule_of finding) ++ 32 ∷ decimal (place_of finding)
 
--- the lines of a report
-abbrev pub report_lines : Capture → Plan → List Rule → ℕ → List ℕ → List Line
-report_lines capture plan rules incomplete findings = map count_line (counts_of capture plan incomplete (length findings)) ++ map (finding_line rules) findings
+-- the lines of the report of a capture, whose frames have these classes and whose kept fragments these groups
+abbrev pub report_lines : Contents → List Class → List Group → List Rule → ℕ → List ℕ → List Line
+report_lines contents classes groups rules incomplete findings =
+    map count_line (counts_of contents classes groups incomplete (length findings)) ++ map (finding_line rules) findings

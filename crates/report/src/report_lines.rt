@@ -2,6 +2,7 @@
 ghost use Rattle.std.specs.Prelude.{◌≡◌, ℕ, ◌<◌, ◌≤◌, ◌++◌, length, map, IfOk, OnOk, All, vec_len};
 ghost use Rattle.std.specs.Fmt.{decimal};
 ghost use Rattle.std.specs.List.{flat_map};
+ghost use Rattle.capture_terms.specs.Capture.{contents_of};
 ghost use Rattle.report.specs.Report.{text_of, ended, frames_of, counts_of, count_line, finding_line, report_lines};
 ghost use Rattle.report.specs.Report as spec;
 
@@ -25,7 +26,7 @@ pub fn report_text(
 ) -> Result<Vec<u8>, AllocError>
     requires incomplete { incomplete ≤ vec_len plan.now.groups }
     requires rules_there { All (λ (f : ℕ). spec.rule_of f < length rules.now) findings.now }
-    ensures text { IfOk result (λ text. text.items ≡ text_of (report_lines capture.now plan.now rules.now incomplete findings.now)) }
+    ensures text { IfOk result (λ text. text.items ≡ text_of (report_lines (contents_of capture.now) plan.now.classes.items plan.now.groups.items rules.now incomplete findings.now)) }
 {
     let mut text = Vec::new(alloc);
     let counts = counts(capture, plan, incomplete, findings.len() as u64);
@@ -43,7 +44,7 @@ fn counts(
     findings: u64,
 ) -> [(&'static [u8], u64); 11]
     requires { incomplete ≤ vec_len plan.now.groups }
-    ensures { map (λ count. (count.0.now, count.1)) result ≡ counts_of capture.now plan.now incomplete findings }
+    ensures { map (λ count. (count.0.now, count.1)) result ≡ counts_of (contents_of capture.now) plan.now.classes.items plan.now.groups.items incomplete findings }
 {
     let whole = count(plan, Class::Whole);
     let complete = plan.groups.len() as u64 - u64::from(incomplete);
@@ -63,7 +64,7 @@ fn counts(
 }
 
 fn count(plan: &Plan, wanted: Class) -> u64
-    ensures count { result ≡ frames_of wanted plan.now }
+    ensures count { result ≡ frames_of wanted plan.now.classes.items }
     ensures few { result ≤ vec_len plan.now.classes }
 {
     plan.classes
