@@ -12,9 +12,9 @@ use Rattle.capture_terms.specs.declared.plan.Group.{Group}
 use Rattle.capture_terms.specs.declared.plan.Plan.{Plan}
 use Rattle.capture_terms.specs.declared.plan.Task.{Task}
 use Rattle.rule_terms.specs.Rule.{Rule}
-use Rattle.report.specs.Report.{text_of, count_line, counts_of, finding_line, report_lines}
+use Rattle.report.specs.Report.{text_of, report_lines}
 use Rattle.inspection_terms.specs.Findings.{all_findings, findings_of_capture}
-use Rattle.tdsl_tool.specs.Inspection.{counts_in, report_of}
+use Rattle.tdsl_tool.specs.Inspection.{report_of}
 use Rattle.tdsl_tool.specs.Verdict.{max_file, max_findings, verdict_under, too_many_findings, reports, answer_is, IsVerdictUnder}
 
 -- the verdict of a count of findings
@@ -32,18 +32,7 @@ under_many rules bytes contents many =
 
 -- the text of these classes, groups, open groups and findings
 abbrev text_from : List Rule → Contents → List Class → List Group → ℕ → List ℕ → List ℕ
-text_from rules contents classes groups open_groups findings =
-    text_of (map count_line (counts_in contents classes groups open_groups (length findings)) ++ map (finding_line rules) findings)
-
--- the report's counts are those of the capture and the plan
-same_counts : (capture : Capture) (plan : Plan) (open_groups findings : ℕ) → counts_of capture plan open_groups findings ≡ counts_in (contents_of capture) plan.classes.items plan.groups.items open_groups findings
-unfolding counts_of
-same_counts capture plan open_groups findings = refl
-
-written : (rules : List Rule) (capture : Capture) (plan : Plan) (open_groups : ℕ) (findings : List ℕ)
-    → text_of (report_lines capture plan rules open_groups findings) ≡ text_from rules (contents_of capture) plan.classes.items plan.groups.items open_groups findings
-written rules capture plan open_groups findings =
-    ap (λ (counts : List (List ℕ × ℕ)). text_of (map count_line counts ++ map (finding_line rules) findings)) (same_counts capture plan open_groups (length findings))
+text_from rules contents classes groups open_groups findings = text_of (report_lines contents classes groups rules open_groups findings)
 
 reported : (rules : List Rule) (bytes : List ℕ) (capture : Capture)
     → text_from rules (contents_of capture) (classes_of (kinds_of bytes capture)) (groups_of (kinds_of bytes capture)) (incomplete (tasks_of (kinds_of bytes capture)) (groups_of (kinds_of bytes capture))) (all_findings rules bytes (tasks_of (kinds_of bytes capture)))
@@ -54,7 +43,7 @@ reported rules bytes capture = refl
 module _ (rules : List Rule) (bytes : List ℕ) (capture : Capture) (plan : Plan) (short : length bytes ≤ max_file) (says : IsCapture bytes capture) (is : IsPlan bytes capture plan) where
   -- a report of the plan's findings is that of the file
   pub report_is : (open_groups : ℕ) (findings text : List ℕ) → findings ≡ all_findings rules bytes plan.tasks.items → length findings ≤ max_findings → open_groups ≡ incomplete plan.tasks.items plan.groups.items
-      → text ≡ text_of (report_lines capture plan rules open_groups findings) → IsVerdictUnder rules bytes (reports text)
+      → text ≡ text_from rules (contents_of capture) plan.classes.items plan.groups.items open_groups findings → IsVerdictUnder rules bytes (reports text)
   report_is open_groups findings text found few open_is text_is =
       let contents = contents_of capture in
       let all = found ∙ ap (all_findings rules bytes) is.tasks in
@@ -64,7 +53,7 @@ module _ (rules : List Rule) (bytes : List ℕ) (capture : Capture) (plan : Plan
         capture = answer_is (captured contents);
         capture_is = (short, says);
         comes_to = ap reports
-            (text_is ∙ written rules capture plan open_groups findings
+            (text_is
             ∙ ap (λ (c : List Class). text_from rules contents c plan.groups.items open_groups findings) is.classes
             ∙ ap (λ (g : List Group). text_from rules contents (classes_of (kinds_of bytes capture)) g open_groups findings) is.groups
             ∙ ap (λ (n : ℕ). text_from rules contents (classes_of (kinds_of bytes capture)) (groups_of (kinds_of bytes capture)) n findings) open_of

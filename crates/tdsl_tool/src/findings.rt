@@ -13,7 +13,7 @@ ghost use Rattle.inspection_terms.specs.Findings.{all_findings, finding_number, 
 use crate::members::{Members, count_incomplete, members_by_group, whole_from};
 use capture_terms::task_law;
 use ipv4_fragments::{Plan, Task, payload};
-use rule_matcher::{Rules, findings_of};
+use rule_matcher::{Rules, any_asks_for, findings_of};
 use rule_terms::findings_are_there;
 use std::alloc::{AllocError, Global};
 
@@ -49,7 +49,8 @@ fn add_found(
     append(found, first.frame, &here)
 }
 
-// Adds what the rules find in the datagram of a complete group.
+// Adds what the rules find in the datagram of a complete group. Its data is put together only where
+// some rule asks for its protocol.
 fn add_group(
     alloc: Global,
     found: &mut Vec<u64>,
@@ -64,8 +65,12 @@ fn add_group(
     ensures added { OnOk result (found.new.items ≡ found.old.items ++ findings_in rules.now bytes.now list.now.tasks.items) }
     ensures rules_there { All (λ (f : ℕ). rule_of f < length rules.now) found.old.items → OnOk result (All (λ (f : ℕ). rule_of f < length rules.now) found.new.items) }
 {
+    let first = &list.tasks[0];
+    if !any_asks_for(rules, &first.header) {
+        return Ok(());
+    }
     let payload = payload(alloc, plan, bytes, &list.numbers)?;
-    add_found(alloc, found, rules, &list.tasks[0], &payload)
+    add_found(alloc, found, rules, first, &payload)
 }
 
 // Adds what the rules find in the datagram that begins with a task, if one does.

@@ -403,3 +403,84 @@ fn limits_are_told_by_their_lines(rt: HostRuntime) -> Result<(), Fail> {
     }
     Ok(())
 }
+
+// An ARP frame, and one of IPv6.
+const ARP: &[u8] = &[2, 0, 0, 0, 0, 2, 2, 0, 0, 0, 0, 1, 8, 6];
+
+const IPV6: &[u8] = &[2, 0, 0, 0, 0, 2, 2, 0, 0, 0, 0, 1, 0x86, 0xdd];
+
+// A datagram of TCP with a total length of 40.
+const ACKNOWLEDGEMENT: &[u8] = &[
+    2, 0, 0, 0, 0, 2, 2, 0, 0, 0, 0, 1, 8, 0, 0x45, 0, 0, 40, 0, 1, 0, 0, 64, 6, 0, 0, 10, 0, 0, 1,
+    192, 0, 2, 1,
+];
+
+// A tag, and a datagram of UDP to port 9.
+const TAGGED: &[u8] = &[
+    2, 0, 0, 0, 0, 2, 2, 0, 0, 0, 0, 1, 0x81, 0, 0, 5, 8, 0, 0x45, 0, 0, 28, 0, 2, 0, 0, 64, 17, 0,
+    0, 10, 0, 0, 1, 192, 0, 2, 1, 0x0f, 0xa0, 0, 9, 0, 8, 0, 0,
+];
+
+// A question for example.com over UDP to port 53. Its name begins 12 bytes behind the UDP header.
+const QUESTION: &[u8] = &[
+    2, 0, 0, 0, 0, 2, 2, 0, 0, 0, 0, 1, 8, 0, 0x45, 0, 0, 57, 0, 3, 0, 0, 64, 17, 0, 0, 10, 0, 0,
+    1, 192, 0, 2, 1, 0x0f, 0xa0, 0, 53, 0, 37, 0, 0, 0, 1, 1, 0, 0, 1, 0, 0, 0, 0, 0, 0, 7, 101,
+    120, 97, 109, 112, 108, 101, 3, 99, 111, 109, 0, 0, 1, 0, 1,
+];
+
+// The headers of an ICMP echo in fragments of 1,480, 1,480 and 1,048 bytes.
+const ECHO_FRONT: &[u8] = &[
+    2, 0, 0, 0, 0, 2, 2, 0, 0, 0, 0, 1, 8, 0, 0x45, 0, 0x05, 0xdc, 0, 4, 0x20, 0, 64, 1, 0, 0, 10,
+    0, 0, 1, 192, 0, 2, 1,
+];
+
+const ECHO_MIDDLE: &[u8] = &[
+    2, 0, 0, 0, 0, 2, 2, 0, 0, 0, 0, 1, 8, 0, 0x45, 0, 0x05, 0xdc, 0, 4, 0x20, 0xb9, 64, 1, 0, 0,
+    10, 0, 0, 1, 192, 0, 2, 1,
+];
+
+const ECHO_END: &[u8] = &[
+    2, 0, 0, 0, 0, 2, 2, 0, 0, 0, 0, 1, 8, 0, 0x45, 0, 0x04, 0x2c, 0, 4, 0x01, 0x72, 64, 1, 0, 0,
+    10, 0, 0, 1, 192, 0, 2, 1,
+];
+
+// Adds the record of a frame of so many bytes, which begins with these and goes on with zeros.
+fn add_frame(capture: &mut Vec<u8>, head: &[u8], length: u16) -> Result<(), AllocError> {
+    let [high, low] = length.to_be_bytes();
+    capture.extend_from_slice(&[0; 8])?;
+    capture.extend_from_slice(&[low, high, 0, 0, low, high, 0, 0])?;
+    capture.extend_from_slice(head)?;
+    for _ in head.len()..usize::from(length) {
+        capture.push(0)?;
+    }
+    Ok(())
+}
+
+#[test]
+fn a_usual_capture_is_reported(rt: HostRuntime) -> Result<(), Fail> {
+    let alloc = rt.alloc();
+    let mut capture = HEADER.to_vec(alloc)?;
+    for (head, length) in [
+        (ARP, 60),
+        (IPV6, 54),
+        (ACKNOWLEDGEMENT, 60),
+        (TAGGED, 46),
+        (QUESTION, 71),
+        (ECHO_FRONT, 1514),
+        (ECHO_MIDDLE, 1514),
+        (ECHO_END, 1082),
+    ] {
+        add_frame(&mut capture, head, length)?;
+    }
+    let rules = b"rule dns proto udp dport 53 has \"example\"";
+    let got = inspected(alloc, &COMMAND, rules, &capture, 0)?;
+    let want = report(
+        alloc,
+        [8, 2, 0, 0, 3, 3, 0, 0, 4, 0, 1],
+        "finding 4 dns 21\n",
+    )?;
+    assert_eq!(rt; got.status, 0);
+    assert_eq!(rt; got.out.as_slice(), want.as_slice());
+    assert_eq!(rt; got.faults.as_slice(), b"".as_slice());
+    Ok(())
+}

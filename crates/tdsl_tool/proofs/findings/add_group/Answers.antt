@@ -18,5 +18,5 @@ returns-clause-added c =
     let payload = c.deref-2.ensures.value ∙ c.in_ok-payload.ensures.bytes list.tasks.items datagram in
     on_ok_weaker c.add_found.result
     (λ added. added ∙ ap (λ (l : List ℕ). c.args.found.now.items ++ l)
-    (findings_in-first c.args.rules.now c.args.bytes.now c.deref-2.result.now list.tasks.items c.index.result.now (complete-some list.tasks.items c.requires.complete) c.index.ensures payload))
+    (findings_in-first c.args.rules.now c.args.bytes.now c.deref-2.result.now list.tasks.items c.index-first.result.now (complete-some list.tasks.items c.requires.complete) c.index-first.ensures payload))
     c.add_found.ensures.added
