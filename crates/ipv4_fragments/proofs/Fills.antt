@@ -1,6 +1,6 @@
 -- What stands where the tasks of a datagram were copied.
 use Rattle.std.proofs.Common.{◌≡◌, ℕ, zero, suc, ◌+◌, ◌<◌, ◌≤◌, Bool, true, false, List, [], ◌∷◌, Option, Some, refl, sym, ◌∙◌, ap, subst, inl, inr, arith, length, get_or}
-use Rattle.std.specs.Prelude.{All, AllPairs, Contains, IsSomeAnd, slice_get, slice_index, filter, count_by, ◌↔◌, cond}
+use Rattle.std.specs.Prelude.{All, AllPairs, Contains, IsSomeAnd, slice_get, slice_index, count_by, ◌↔◌, cond}
 use Rattle.std.proofs.lemmas.Bool.{cases_eq, cases_lt}
 use Rattle.std.proofs.lemmas.Bool.Decides.{nat_tests}
 use Rattle.std.proofs.lemmas.List.{get_or_default}

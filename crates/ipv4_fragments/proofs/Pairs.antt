@@ -1,7 +1,7 @@
 -- Two tasks of one group that make up a datagram.
-use Rattle.std.proofs.Common.{◌≡◌, ℕ, zero, suc, ◌+◌, ◌<◌, true, List, [], ◌∷◌, Option, None, Some, inr, refl, sym, ◌∙◌, ap, subst, arith, get_or, length}
+use Rattle.std.proofs.Common.{◌≡◌, ℕ, zero, suc, ◌<◌, true, List, [], ◌∷◌, Option, None, Some, inr, refl, sym, ◌∙◌, ap, subst, arith, get_or, length}
 use Rattle.std.specs.Prelude.{IsSomeAnd, Contains, slice_get}
-use Rattle.capture_terms.specs.Datagram.{is_member, is_complete, members, end_of_task, size_of, IsDatagramAt}
+use Rattle.capture_terms.specs.Datagram.{is_member, is_complete, members, IsDatagramAt}
 use Rattle.capture_terms.specs.declared.plan.Task.{Task}
 
 in_group : (o : Option ℕ) → IsSomeAnd o (λ group. group ≡ 0) → o ≡ Some 0

@@ -48,7 +48,7 @@ fn has_ipv4(frame: &[u8], at: usize) -> bool
     has_type(frame, at, 0x0800)
 }
 
-// Behind the header of an Ethernet frame and at most two tags.
+// Where the datagram of an Ethernet frame begins: behind its header and at most two tags.
 #[tactic(auto, unfolding(capture_terms::specs::Classes::ethernet_start))]
 fn ethernet_start(frame: &[u8]) -> Option<usize>
     ensures start { result ≡ classes.ethernet_start frame.now }
@@ -99,7 +99,7 @@ fn has_bad_header(datagram: &[u8]) -> bool
         || u16_at(datagram, 2) < u16::from(datagram[0] % 16) * 4
 }
 
-// The flag of a datagram of which more fragments follow.
+// Whether the flag is set that tells of more fragments behind this one.
 fn has_more_fragments(datagram: &[u8]) -> bool
     requires { HasHeader datagram.now }
     ensures { result ≡ classes.has_more_fragments datagram.now }

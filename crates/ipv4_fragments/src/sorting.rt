@@ -64,7 +64,7 @@ fn settle(
 }
 
 impl Sorting {
-    /// Nothing.
+    /// What is made of no frames.
     pub fn new(alloc: Global) -> Sorting
         ensures holds { Holds result [] }
         ensures empty { length result.groups.known.keys ≡ 0 }

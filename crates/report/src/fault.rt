@@ -17,7 +17,7 @@ pub enum Fault<'a> {
     LimitFrames,
     /// There are more than 1,024 rules.
     LimitRules,
-    /// There are more findings than was asked for.
+    /// There are more findings than a report may have.
     LimitFindings,
     /// This isn't built yet.
     Unbuilt(&'a str),

@@ -195,7 +195,7 @@ const CASES: [Case; 9] = [
 ];
 
 #[test]
-fn reports(rt: HostRuntime) -> Result<(), Fail> {
+fn a_report_has_eleven_counts_and_a_line_for_each_finding(rt: HostRuntime) -> Result<(), Fail> {
     let alloc = rt.alloc();
     for (number, case) in CASES.iter().enumerate() {
         let capture = capture_of(alloc, case.classes.len(), case.torn)?;
@@ -222,7 +222,7 @@ fn reports(rt: HostRuntime) -> Result<(), Fail> {
 }
 
 #[test]
-fn fault_lines(rt: HostRuntime) -> Result<(), Fail> {
+fn each_fault_is_told_by_its_line(rt: HostRuntime) -> Result<(), Fail> {
     let lines: [(Fault<'static>, &str); 14] = [
         (
             Fault::Usage,

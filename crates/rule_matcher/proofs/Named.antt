@@ -1,6 +1,6 @@
 -- The name of one rule more.
-use Rattle.std.proofs.Common.{◌≡◌, ℕ, suc, ◌<◌, Bool, cond, true, false, List, [], ◌∷◌, ◌++◌, length, get_or, inl, inr, refl, sym, ◌∙◌, ap, arith, length-append}
-use Rattle.std.specs.Prelude.{◌⊎◌, ◌↔◌, Any, not}
+use Rattle.std.proofs.Common.{◌≡◌, ℕ, Bool, cond, true, false, List, [], ◌∷◌, ◌++◌, length, get_or, inl, inr, refl, sym, ◌∙◌, ap, arith, length-append}
+use Rattle.std.specs.Prelude.{◌⊎◌, ◌↔◌, not}
 use Rattle.std.specs.Borrow.{Bor}
 use Rattle.std.specs.BTreeSet.{BTreeSet, contains}
 use Rattle.std.specs.Cmp.Lexicographic.{slice_cmp}
@@ -49,9 +49,10 @@ names_more old new name rules rule updates are is q = by_case (same name q) refl
         let before : has new q ≡ has old q = updates q ∙ ap (λ (b : Bool). cond b true (has old q)) away in
         let other : name.now ≡ q.now → has old q ≡ true = λ named.
         let wrong : true ≡ false = sym ((bytes_eq-Decides name.now q.now).1 named) ∙ sym equal ∙ away in
-        absurd (cc wrong) in
-        (λ found. still_taken q.now rules rule ((are q).0 (sym before ∙ found)),
-        λ taken. before ∙ elim (taken_among q.now rules rule taken) [ inl early ↦ (are q).1 early | inr late ↦ other (sym is ∙ late) ])
+        absurd (cc wrong) in (
+          λ found. still_taken q.now rules rule ((are q).0 (sym before ∙ found)),
+          λ taken. before ∙ elim (taken_among q.now rules rule taken) [ inl early ↦ (are q).1 early | inr late ↦ other (sym is ∙ late) ],
+        )
 
 -- a name is new exactly where no rule has it
 pub name_taken : (old : BTreeSet (Bor (List ℕ))) (name : Bor (List ℕ)) (rules : List Rule) (is_new : Bool) → is_new ≡ not (has old name) → AreNamesOf old rules → (is_new ≡ false) ↔ IsTaken name.now rules

@@ -19,7 +19,7 @@ fn count_of(rt: &impl Abort, alloc: Global, text: &[u8]) -> Option<u32> {
 }
 
 #[test]
-fn texts_and_how_many_rules_they_have(rt: HostRuntime) {
+fn a_text_has_a_rule_for_each_line_or_none_at_all(rt: HostRuntime) {
     let cases: [(&[u8], Option<u32>); 30] = [
         (b"", Some(0)),
         (b"rule greet proto udp dport 53 has \"hello\"", Some(1)),
@@ -118,7 +118,7 @@ fn at_most_1024_rules(rt: HostRuntime) -> Result<(), Fail> {
 }
 
 #[test]
-fn findings_by_rule_and_place(rt: HostRuntime) -> Result<(), Fail> {
+fn each_matching_rule_is_found_at_its_least_place(rt: HostRuntime) -> Result<(), Fail> {
     let alloc = rt.alloc();
     let cases: [(&[u8], u8, &[u8], &[(u16, u16)]); 9] = [
         (
@@ -206,7 +206,10 @@ fn a_protocol_that_no_rule_asks_for_is_told(rt: HostRuntime) -> Result<(), Fail>
             destination: 0xc000_0201,
             protocol,
         };
-        assert_eq!(rt; [any_asks_for(&some, &header), any_asks_for(&any, &header)], want);
+        assert_eq!(rt;
+            [any_asks_for(&some, &header), any_asks_for(&any, &header)],
+            want
+        );
         assert!(rt; !any_asks_for(&none, &header));
     }
     Ok(())

@@ -9,7 +9,7 @@ use native.Mathlib.Decide.{ℕ_discrete}
 use Rattle.capture_terms.specs.Datagram.{is_member, members, is_complete, incomplete, group_from, datagram_from, IsDatagramAt}
 use Rattle.capture_terms.specs.declared.plan.Group.{Group}
 use Rattle.capture_terms.specs.declared.plan.Task.{Task}
-use Rattle.capture_terms.proofs.Filters.{get_there, there_get}
+use Rattle.std.proofs.lemmas.Option.{slice_get-get_or, slice_get_within, get_or_from_slice_get}
 use Rattle.capture_terms.proofs.PlanLaw.{member_group}
 use Rattle.rule_terms.specs.Rule.{Rule}
 use Rattle.inspection_terms.specs.Findings.{findings_in, all_findings}
@@ -312,7 +312,7 @@ list_in (x ∷ xs) (suc k) d l = let r = list_in xs k d (omega arith) in let m =
 
 module _ (rules : List Rule) (bytes : List ℕ) (tasks : List Task) (groups : List Group) where
   there : (i : ℕ) → i < length tasks → slice_get tasks i ≡ Some (nth rules bytes tasks groups i)
-  there i l = get_there tasks i (nth rules bytes tasks groups i) l ∙ ap (λ (t : Task). Some t) (sym (nth_is rules bytes tasks groups i (nth rules bytes tasks groups i) l))
+  there i l = slice_get-get_or tasks i (nth rules bytes tasks groups i) l ∙ ap (λ (t : Task). Some t) (sym (nth_is rules bytes tasks groups i (nth rules bytes tasks groups i) l))
 
   pub whole_datagram : (i : ℕ) → IsWhole (work_of rules bytes tasks groups) i
       → (datagram : List Task) × IsDatagramAt tasks (i ∷ []) datagram × ((work_of rules bytes tasks groups).task_values i ≡ findings_in rules bytes datagram)
@@ -336,10 +336,10 @@ module _ (rules : List Rule) (bytes : List ℕ) (tasks : List Task) (groups : Li
           subst (λ (o : Option Task). IsSomeAnd o (λ task. is_member h task ≡ true)) (sym (there (get_or numbers k d) (below rules bytes tasks groups (get_or numbers k d) m.below)))
           (group_member h (nth rules bytes tasks groups (get_or numbers k d)) (sym (group_at rules bytes tasks groups (get_or numbers k d)) ∙ m.belongs));
       all = λ number t at is.
-          let inside = there_get tasks number t t at in
-          let nth_at : nth rules bytes tasks groups number ≡ t = nth_is rules bytes tasks groups number t inside.0 ∙ inside.1 in
+          let inside : number < length tasks = slice_get_within tasks number t at in
+          let nth_at : nth rules bytes tasks groups number ≡ t = nth_is rules bytes tasks groups number t inside ∙ get_or_from_slice_get tasks number t t at in
           in_list number numbers (every number (record {
-            below = (let n = long rules bytes tasks groups in let i = inside.0 in omega arith);
+            below = (let n = long rules bytes tasks groups in let i = inside in omega arith);
             belongs = group_at rules bytes tasks groups number ∙ (ap (λ (u : Task). u.group) nth_at ∙ member_group h t is);
           }));
       complete = complete_passes rules bytes tasks groups h c;

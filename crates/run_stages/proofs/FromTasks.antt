@@ -15,7 +15,8 @@ use Rattle.capture_terms.specs.Datagram.{end_of_task, size_of, is_member, member
 use Rattle.capture_terms.specs.Groups.{AreGrouped}
 use Rattle.capture_terms.specs.declared.plan.Group.{Group}
 use Rattle.capture_terms.specs.declared.plan.Task.{Task}
-use Rattle.capture_terms.proofs.Filters.{any_found, filter_contains, there_get}
+use Rattle.capture_terms.proofs.Filters.{any_found, filter_contains}
+use Rattle.std.proofs.lemmas.Option.{slice_get_within, get_or_from_slice_get}
 use Rattle.capture_terms.proofs.PlanGroups.{member_of}
 use Rattle.capture_terms.proofs.PlanLaw.{member_group}
 use Rattle.rule_terms.specs.Rule.{Rule}
@@ -96,7 +97,7 @@ module _ (rules : List Rule) (bytes : List ℕ) (tasks : List Task) (groups : Li
   facts_are i = get_or-map facts_of tasks i no_task
 
   pub facts_at : (i : ℕ) (t : Task) → slice_get tasks i ≡ Some t → task w i ≡ facts_of t
-  facts_at i t at = facts_are i ∙ ap facts_of (there_get tasks i t no_task at).1
+  facts_at i t at = facts_are i ∙ ap facts_of (get_or_from_slice_get tasks i t no_task at)
 
   pub nth_is : (i : ℕ) (d : Task) → i < length tasks → nth i ≡ get_or tasks i d
   nth_is i d l = get_or_default tasks i no_task d l
@@ -173,14 +174,14 @@ module _ (rules : List Rule) (bytes : List ℕ) (tasks : List Task) (groups : Li
       let found = any_found (λ (s : Task). s.last && (size_of (members tasks h) == end_of_task s)) (members tasks h) e in
       let t : Task = found.0 in
       let place = filter_contains (is_member h) tasks t found.1 in
-      let there = there_get tasks place.0 t no_task place.1 in
-      let member : IsMember w h place.0 = is_member_of h place.0 there.0 (ap (λ (s : Task). s.group) there.1 ∙ member_group h t place.2) in
+      let there = get_or_from_slice_get tasks place.0 t no_task place.1 in
+      let member : IsMember w h place.0 = is_member_of h place.0 (slice_get_within tasks place.0 t place.1) (ap (λ (s : Task). s.group) there ∙ member_group h t place.2) in
       let full : size_of (members tasks h) ≡ end_of_task t = same (size_of (members tasks h)) (end_of_task t) (second_of_both t.last (size_of (members tasks h) == end_of_task t) found.2) in
       record {
         ender = place.0;
         member = member;
-        last = last_at place.0 ∙ (ap (λ (s : Task). s.last) there.1 ∙ first_of_both t.last (size_of (members tasks h) == end_of_task t) found.2);
-        full = bytes_are h ∙ (full ∙ sym (end_at place.0 ∙ ap end_of_task there.1));
+        last = last_at place.0 ∙ (ap (λ (s : Task). s.last) there ∙ first_of_both t.last (size_of (members tasks h) == end_of_task t) found.2);
+        full = bytes_are h ∙ (full ∙ sym (end_at place.0 ∙ ap end_of_task there));
       }
     where
       same : (a b : ℕ) → (a == b) ≡ true → a ≡ b

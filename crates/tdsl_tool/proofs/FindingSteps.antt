@@ -83,12 +83,6 @@ findings_in-first rules bytes payload (task ∷ tasks) first some is whole =
     ap (λ (t : Task). map (finding_number t.frame) (findings_of rules t.header payload)) is
     ∙ ap (λ (p : List ℕ). map (finding_number task.frame) (findings_of rules task.header p)) whole
 
--- there are none where the rules find nothing in any payload
-pub findings_in-none : (rules : List Rule) (bytes : List ℕ) (datagram : List Task) (first : Task) → first ≡ get_or datagram 0 first → ((payload : List ℕ) → findings_of rules first.header payload ≡ []) → findings_in rules bytes datagram ≡ []
-findings_in-none rules bytes [] first is none = refl
-findings_in-none rules bytes (task ∷ tasks) first is none =
-    ap (map (finding_number task.frame)) (ap (λ (t : Task). findings_of rules t.header (payload_of bytes (task ∷ tasks))) (sym is) ∙ none (payload_of bytes (task ∷ tasks)))
-
 -- those in the datagram of a task of no group
 pub findings_alone : (rules : List Rule) (bytes piece : List ℕ) (tasks : List Task) (task : Task) → task.group ≡ None → piece ≡ payload_of bytes (task ∷ []) → map (finding_number task.frame) (findings_of rules task.header piece) ≡ option_map_or (findings_in rules bytes) (datagram_from tasks task) []
 findings_alone rules bytes piece tasks task none is =

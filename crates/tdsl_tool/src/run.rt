@@ -147,6 +147,7 @@ pub fn run_with<Rt, F: Files, O: Sink, E: Sink>(
     ensures counts_out { O.faults out.old ≤ O.faults out.new }
     ensures counts_faults { E.faults faults.old ≤ E.faults faults.new }
 {
+    // The runtime serves commands that start threads; this one starts none.
     let _ = rt;
     one_verdict();
     some_answer();

@@ -1,6 +1,5 @@
-use Rattle.std.proofs.Common.{◌≡◌, [], ◌∷◌, List, true, false, length, Some, None, refl, sym, ◌∙◌, ap, subst, arith, length-append}
+use Rattle.std.proofs.Common.{◌≡◌, [], ◌∷◌, length, Some, None, refl, sym, ◌∙◌, ap, arith, length-append}
 use Rattle.std.proofs.lemmas.Grind.{common_steps}
-use Rattle.rule_terms.specs.Rule.{Rule}
 use Rattle.rule_terms.specs.Grammar.{read_rule}
 use Rattle.rule_terms.specs.RuleText.{read_line}
 use Rattle.rule_matcher.specs.Line.{rule_of}
