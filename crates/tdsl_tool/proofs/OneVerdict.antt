@@ -1,8 +1,8 @@
 -- Two files come to one verdict only.
-use Rattle.std.proofs.Common.{◌≡◌, ℕ, ◌<◌, ◌≤◌, List, length, refl, sym, ◌∙◌, ap, arith}
+use Rattle.std.proofs.Common.{◌≡◌, ℕ, List, refl, sym, ◌∙◌, ap, arith}
 use Rattle.capture_terms.specs.Capture.{Answer, IsAnswer}
 use Rattle.rule_terms.specs.Laws.{RuleTextIsOne}
-use Rattle.tdsl_tool.specs.Verdict.{max_file, RuleFile, long_rules, no_rules, rules_are, IsRuleFile, CaptureFile, long_capture, answer_is, IsCaptureFile, IsVerdict, VerdictIsOne, verdict_of}
+use Rattle.tdsl_tool.specs.Verdict.{RuleFile, long_rules, no_rules, rules_are, IsRuleFile, CaptureFile, long_capture, answer_is, IsCaptureFile, VerdictIsOne, verdict_of}
 
 abbrev pub AnswerIsOne : Type 0
 AnswerIsOne = (bytes : List ℕ) (one two : Answer) → IsAnswer bytes one → IsAnswer bytes two → one ≡ two

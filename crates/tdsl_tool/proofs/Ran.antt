@@ -1,12 +1,11 @@
 -- What holds of a run, from how it ended.
-use Rattle.std.proofs.Common.{◌≡◌, ◌≢◌, ◌⊎◌, ◌↔◌, inl, inr, ℕ, ◌+◌, ◌<◌, ◌≤◌, List, length, Option, Some, None, refl, sym, ◌∙◌, ap, subst, arith}
+use Rattle.std.proofs.Common.{◌≡◌, ◌≢◌, ◌⊎◌, inl, inr, ℕ, ◌<◌, List, length, Some, None, refl, sym, ◌∙◌, ap, subst, arith}
 use Rattle.std.proofs.lemmas.Bool.{cases_lt}
 use Rattle.byte_ends.specs.Told.{Rose, Grows, GrowsByPrefix}
 use Rattle.capture_terms.specs.Capture.{Answer, IsAnswer}
-use Rattle.rule_terms.specs.Rule.{Rule}
 use Rattle.tdsl_tool.specs.Words.{Names, names_in}
-use Rattle.tdsl_tool.specs.Verdict.{max_file, Verdict, rules_too_long, rules_unbuilt, capture_too_long, bad_capture, too_many_findings, reports, RuleFile, long_rules, no_rules, rules_are, IsRuleFile, CaptureFile, long_capture, answer_is, IsCaptureFile, IsVerdict, VerdictIsOne, verdict_status, verdict_of}
-use Rattle.tdsl_tool.specs.Run.{Reading, Writing, Run, reading_of, IfNamed, IfTold2, EndsBy, Exactly, HasStatus, Ran, FailedFor, AreRules, IfRulesTold, IfBothTold, ComesTo, IsReport, StopsAt, EndsSo, status_of, Tells, TellsLine, usage_words}
+use Rattle.tdsl_tool.specs.Verdict.{max_file, Verdict, rules_too_long, rules_unbuilt, capture_too_long, reports, RuleFile, long_rules, no_rules, IsRuleFile, CaptureFile, long_capture, answer_is, IsCaptureFile, IsVerdict, VerdictIsOne, verdict_status, verdict_of}
+use Rattle.tdsl_tool.specs.Run.{Reading, Writing, Run, reading_of, EndsBy, Exactly, HasStatus, Ran, FailedFor, AreRules, IfRulesTold, IfBothTold, IsReport, EndsSo, status_of, Tells, TellsLine, usage_words}
 use Rattle.tdsl_tool.specs.declared.ending.Ending.{Ending}
 use Rattle.tdsl_tool.specs.declared.ending.Ending.TheVariants.{Reported, NotWritten, ReadRules, ReadCapture, RulesTooLong, RulesUnbuilt, CaptureTooLong, BadHeader, OtherVersion, OtherLink, LongRecord, TooManyFrames, TooManyFindings, Memory}
 

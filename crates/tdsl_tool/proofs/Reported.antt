@@ -1,5 +1,5 @@
 -- What a report says, and where there is none for too many findings.
-use Rattle.std.proofs.Common.{◌≡◌, ℕ, ◌<◌, ◌≤◌, ◌++◌, List, length, refl, sym, ◌∙◌, ap, arith, map}
+use Rattle.std.proofs.Common.{◌≡◌, ℕ, ◌<◌, ◌≤◌, List, length, refl, sym, ◌∙◌, ap, arith}
 use Rattle.std.specs.Prelude.{true, false, Bool, nat_lt, if◌then◌else◌}
 use Rattle.std.proofs.lemmas.Bool.Decides.{nat_tests}
 use Rattle.capture_terms.specs.Capture.{Contents, contents_of, captured, IsCapture}

@@ -1,10 +1,10 @@
 -- What the parts of a run find, put together.
-use Rattle.std.proofs.Common.{◌≡◌, ◌≢◌, ℕ, ◌≤◌, List, length, Option, Some, refl, sym, subst}
+use Rattle.std.proofs.Common.{◌≡◌, ◌≢◌, ℕ, ◌≤◌, List, length, Some, refl, subst}
 use Rattle.byte_ends.specs.Told.{IfTold}
 use Rattle.capture_terms.specs.Capture.{Answer, captured, bad_header, other_version, other_link, long_record, too_many_frames, IsAnswer}
 use Rattle.rule_terms.specs.Rule.{Rule}
 use Rattle.tdsl_tool.specs.Words.{Names}
-use Rattle.tdsl_tool.specs.Verdict.{max_file, Verdict, bad_capture, IsVerdict, IsVerdictUnder, answer_is, IsRuleFile, rules_are}
+use Rattle.tdsl_tool.specs.Verdict.{max_file, Verdict, bad_capture, IsVerdictUnder, answer_is, IsRuleFile, rules_are}
 use Rattle.tdsl_tool.specs.Run.{Writing, Tells, TellsLine, words_of, Reading, IfRulesTold, ComesTo, StopsAt, StopsUnder}
 use Rattle.tdsl_tool.specs.declared.ending.Ending.{Ending}
 use Rattle.tdsl_tool.specs.declared.ending.Ending.TheVariants.{Reported, NotWritten, ReadRules, ReadCapture, RulesTooLong, RulesUnbuilt, CaptureTooLong, BadHeader, OtherVersion, OtherLink, LongRecord, TooManyFrames, TooManyFindings, Memory}

@@ -1,11 +1,11 @@
 -- How a run of the program ends, and what it leaves.
-use Rattle.std.specs.Prelude.{◌≡◌, ◌≢◌, ◌⊎◌, ◌↔◌, ℕ, ◌<◌, ◌≤◌, List, [], ◌∷◌, ◌++◌, length, Option, Some, None, codes}
+use Rattle.std.specs.Prelude.{◌≡◌, ◌≢◌, ◌⊎◌, ◌↔◌, ℕ, List, [], ◌∷◌, ◌++◌, Option, Some, None, codes}
 use Rattle.std.specs.Fmt.{decimal}
 use Rattle.byte_ends.specs.Told.{Rose, IfTold, Grows, GrowsByPrefix}
 use Rattle.capture_terms.specs.Capture.{bad_header, other_version, other_link, long_record, too_many_frames}
 use Rattle.rule_terms.specs.Rule.{Rule}
 use Rattle.tdsl_tool.specs.Words.{Names, names_in}
-use Rattle.tdsl_tool.specs.Verdict.{Verdict, rules_too_long, rules_unbuilt, capture_too_long, bad_capture, too_many_findings, reports, IsVerdict, IsVerdictUnder, IsRuleFile, long_rules, no_rules, rules_are, verdict_status}
+use Rattle.tdsl_tool.specs.Verdict.{Verdict, capture_too_long, bad_capture, too_many_findings, reports, IsVerdict, IsVerdictUnder, IsRuleFile, long_rules, no_rules, rules_are, verdict_status}
 use Rattle.tdsl_tool.specs.declared.ending.Ending.{Ending}
 use Rattle.tdsl_tool.specs.declared.ending.Ending.TheVariants.{Reported, NotWritten, ReadRules, ReadCapture, RulesTooLong, RulesUnbuilt, CaptureTooLong, BadHeader, OtherVersion, OtherLink, LongRecord, TooManyFrames, TooManyFindings, Memory}
 

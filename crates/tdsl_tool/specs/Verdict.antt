@@ -1,5 +1,5 @@
 -- What a rule file and a capture file come to, as their bytes tell.
-use Rattle.std.specs.Prelude.{◌≡◌, ℕ, ◌<◌, ◌≤◌, nat_lt, List, [], ◌∷◌, ◌++◌, length, if◌then◌else◌}
+use Rattle.std.specs.Prelude.{◌≡◌, ℕ, ◌<◌, ◌≤◌, nat_lt, List, length, if◌then◌else◌}
 use Rattle.capture_terms.specs.Capture.{Answer, captured, bad_header, other_version, other_link, long_record, too_many_frames, IsAnswer, Contents}
 use Rattle.rule_terms.specs.Rule.{Rule}
 use Rattle.rule_terms.specs.RuleText.{IsRuleText}

@@ -1,7 +1,6 @@
-use Rattle.std.proofs.Common.{◌≡◌, List, Some, refl, ◌∙◌, arith}
+use Rattle.std.proofs.Common.{refl, ◌∙◌, arith}
 use Rattle.std.proofs.lemmas.Result.{IfOk-weaker, IfErr-weaker}
 use Rattle.tdsl_tool.specs.Verdict.{reports, long_capture}
-use Rattle.tdsl_tool.specs.Run.{Reading}
 use Rattle.tdsl_tool.proofs.Verdicts.{comes_to, comes_to_of, stops_at}
 use Rattle.tdsl_tool.proofs.run.report_for.Goals as goal
 
