@@ -18,6 +18,7 @@ pub mod Opening
 pub mod Closing
 pub mod Passes
 pub mod Replay
+pub mod Unwritten
 pub mod Sole
 pub mod HeldList
 pub mod Attempts

@@ -214,6 +214,17 @@ module _ {M D : Type 0} where
   missed_still v c r u e l = subst (λ (b : Bool). Among (c, u, v.known) (cond b (add_validation c (r / 2) v.known v.validations) v.validations)) (sym (eq-eqb (r % 2) 0 (even_half r u e).0))
       (subst (λ (z : ℕ). Among (c, u, v.known) (add_validation c z v.known v.validations)) (sym (even_half r u e).1) (added_validation c u v.known v.validations l))
 
+  -- the same for the view that a contract names
+  pub grows_by : (p q : PassState M D) (w x : View M D) → p ≡ q → w ≡ x → Grows p.view x → Grows q.view w
+  grows_by p q w x e f g = subst (λ (z : PassState M D). Grows z.view w) e (subst (λ (z : View M D). Grows p.view z) (sym f) g)
+
+  pub taken_validated : (p q : PassState M D) (w : View M D) (c r : ℕ) → p ≡ q → w ≡ taken p.view c (r / 2) → (u : ℕ) → r ≡ 2 * u → u ≤ q.view.known → Validated w c u q.view.known
+  taken_validated p q w c r e f u is = subst (λ (z : PassState M D). u ≤ z.view.known → Validated w c u z.view.known) e
+      (λ l. subst (λ (z : View M D). Validated z c u p.view.known) (sym f) (subst (λ (z : ℕ). Among (c, u, p.view.known) (add_validation c z p.view.known p.view.validations)) (sym (even_half r u is).1) (added_validation c u p.view.known p.view.validations l)))
+
+  pub missed_validated : (p q : PassState M D) (w : View M D) (c r : ℕ) → p ≡ q → w ≡ missed p.view c r → (u : ℕ) → r ≡ 2 * u → u ≤ q.view.known → Validated w c u q.view.known
+  missed_validated p q w c r e f u is = subst (λ (z : PassState M D). u ≤ z.view.known → Validated w c u z.view.known) e (λ l. subst (λ (z : View M D). Validated z c u p.view.known) (sym f) (missed_still p.view c r u is l))
+
   -- no version of the trail is above a free word that is found
   pub never_falls : (p q : PassState M D) (c r : ℕ) → p ≡ q → IsWord p.view c r → (u w : ℕ) → r ≡ 2 * u → FoundFree (trail_of q) c w → w ≤ u
   never_falls p q c r e word u w even = subst (λ (z : PassState M D). FoundFree (trail_of z) c w → w ≤ u) e

@@ -10,3 +10,4 @@ pub mod IsPass
 pub mod Writers
 pub mod Settled
 pub mod Seats
+pub mod Transfer

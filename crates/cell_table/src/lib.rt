@@ -16,6 +16,8 @@ mod sent;
 mod table;
 #[cfg(test)]
 mod tests;
+#[cfg(test)]
+mod transfer;
 mod view;
 mod words;
 

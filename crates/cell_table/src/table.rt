@@ -45,7 +45,7 @@ impl<M: Meaning> CellTable<M> {
     ghost use Rattle.cell_table.specs.declared.view.Stage.TheVariants.{Open, Drawn};
     ghost use Rattle.cell_table.specs.declared.view.OpenRead.TheVariants.{LockRead, ValueRead};
     ghost use Rattle.cell_table.specs.Rule.{cells_of};
-    ghost use Rattle.cell_table.specs.Steps.{clocked, looked, valued, taken, missed, drawn, due, first_put, next_put, word_found, IsUndecided, MayStore, MayDecide, FoundFree, IsWord, HeldStand, Reads, Validated, Observes, IsStoredOrUndecided};
+    ghost use Rattle.cell_table.specs.Steps.{clocked, looked, valued, taken, missed, drawn, due, first_put, next_put, word_found, IsUndecided, MayStore, MayDecide, FoundFree, Grows, IsWord, HeldStand, Reads, Validated, Observes, IsStoredOrUndecided};
     ghost use Rattle.cell_table.specs.Steps.{AllHeld};
     ghost use Rattle.cell_table.specs.Legal.{LegalNow};
     ghost use Rattle.cell_table.specs.Seats.{record_of};
@@ -58,6 +58,7 @@ impl<M: Meaning> CellTable<M> {
         ensures of { IsPassOf self.now pass.new }
         ensures view { pass.new ≡ with_view pass.old (clocked pass.old.view result) }
         ensures step { trail_of pass.new ≡ trail_of pass.old ++ ClockLoaded result ∷ [] }
+        ensures grows { Grows pass.old.view pass.new.view }
         ensures later { (pass.old.seen ≤ result) × (pass.old.view.known ≤ result) }
         ensures held_stand { pass.old.view.stage ≡ Open → HeldStand pass.old.view pass.new.view result }
     {
@@ -71,6 +72,7 @@ impl<M: Meaning> CellTable<M> {
         ensures of { IsPassOf self.now pass.new }
         ensures view { pass.new ≡ with_view pass.old (looked pass.old.view cell result) }
         ensures step { trail_of pass.new ≡ trail_of pass.old ++ LockLoaded cell result ∷ [] }
+        ensures grows { Grows pass.old.view pass.new.view }
         ensures word { IsWord pass.old.view cell result }
 
         // The first look of a read, and the last one where it finds the version of the first: then the value is known.
@@ -97,6 +99,7 @@ impl<M: Meaning> CellTable<M> {
         ensures of { IsPassOf self.now pass.new }
         ensures view { pass.new ≡ with_view pass.old (valued pass.old.view cell result) }
         ensures step { trail_of pass.new ≡ trail_of pass.old ++ ValueLoaded cell result ∷ [] }
+        ensures grows { Grows pass.old.view pass.new.view }
         ensures second { (u : ℕ) → pass.old.view.reading ≡ LockRead cell u → pass.new.view.reading ≡ ValueRead cell u result }
         ensures held_value { (u : ℕ) → Among (cell, u) pass.old.view.held → IsUndecided pass.old.view.stage → Reads pass.new.view cell u result }
     {
@@ -118,6 +121,8 @@ impl<M: Meaning> CellTable<M> {
         ensures taken { OnOk result ((pass.new ≡ record pass.old { view = taken pass.old.view cell (from / 2); places = pass.old.places - 1 }) × (has cell (cells_of pass.old.view.held) ≡ false)) }
         ensures found { IfErr result (λ found. (found ≢ from) × (pass.new ≡ with_view pass.old (missed pass.old.view cell found)) × IsWord pass.old.view cell found) }
         ensures step { trail_of pass.new ≡ trail_of pass.old ++ LockExchanged cell (word_found from result) ∷ [] }
+        ensures grows { Grows pass.old.view pass.new.view }
+        ensures still { (u : ℕ) → word_found from result ≡ 2 * u → u ≤ pass.old.view.known → Validated pass.new.view cell u pass.old.view.known }
         ensures never_falls { (u w : ℕ) → word_found from result ≡ 2 * u → FoundFree (trail_of pass.old) cell w → w ≤ u }
 
         // So a pass with every caller number never fails where `from` is the word of the last writer in its own books.
@@ -144,6 +149,7 @@ impl<M: Meaning> CellTable<M> {
         ensures of { IsPassOf self.now pass.new }
         ensures view { pass.new ≡ with_view pass.old (drawn pass.old.view result) }
         ensures step { trail_of pass.new ≡ trail_of pass.old ++ VersionDrawn result ∷ [] }
+        ensures grows { Grows pass.old.view pass.new.view }
         ensures later { (pass.old.seen < result) × (pass.old.view.known < result) }
         ensures above { Each (λ t. t.1 < result) pass.old.view.held }
         ensures held_stand { HeldStand pass.old.view pass.new.view (result - 1) }
@@ -167,6 +173,7 @@ impl<M: Meaning> CellTable<M> {
         ensures of { IsPassOf self.now pass.new }
         ensures view { pass.new ≡ after_put pass.old cell value pass.old.plan }
         ensures step { trail_of pass.new ≡ trail_of pass.old ++ ValueStored cell value ∷ [] }
+        ensures grows { Grows pass.old.view pass.new.view }
     {
         mark_stored(&mut pass.held, cell);
         let Some(plan) = pass.plan.take() else {
@@ -230,6 +237,7 @@ impl<M: Meaning> CellTable<M> {
         ensures of { IsPassOf self.now pass.new }
         ensures view { pass.new ≡ after_give pass.old cell }
         ensures step { trail_of pass.new ≡ trail_of pass.old ++ LockStored cell (2 * due cell pass.old.view.held pass.old.view.stage) ∷ [] }
+        ensures grows { Grows pass.old.view pass.new.view }
     {
         let entry = take_held(&mut pass.held, cell);
         let version = due_version(entry, pass.drawn);
