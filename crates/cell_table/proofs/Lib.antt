@@ -19,6 +19,7 @@ pub mod Closing
 pub mod Passes
 pub mod Replay
 pub mod Unwritten
+pub mod Idle
 pub mod Sole
 pub mod HeldList
 pub mod Attempts
