@@ -5,6 +5,7 @@ mod books;
 mod close;
 mod entry;
 mod held;
+mod knows;
 mod meaning;
 mod open;
 mod pass;
@@ -15,6 +16,8 @@ mod sent;
 mod table;
 #[cfg(test)]
 mod tests;
+#[cfg(test)]
+mod transfer;
 mod view;
 mod words;
 

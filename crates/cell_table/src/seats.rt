@@ -77,11 +77,11 @@ impl<M: Meaning> Pass<M> {
         ensures unchanged { OnErr result (self.new ≡ self.old) }
     {
         let kept = self.ledgers.len() - n as usize;
-        let draws = n as u64 * (self.draws / self.ledgers.len() as u64);
+        let share = n as u64 * (self.draws / self.ledgers.len() as u64);
         let held = Vec::with_capacity(alloc, 8)?;
         let ledgers = self.ledgers.split_off(kept)?;
-        let seat = table.cut::<Brand>(&mut self.seat, kept, draws);
-        self.draws -= draws;
+        let seat = table.cut::<Brand>(&mut self.seat, kept, share);
+        self.draws -= share;
         Ok(Pass {
             seat,
             ledgers,
@@ -89,7 +89,7 @@ impl<M: Meaning> Pass<M> {
             drawn: 0,
             plan: None,
             seen: self.seen,
-            draws,
+            draws: share,
             room: n,
         })
     }

@@ -27,7 +27,7 @@ pub struct CellTable<M: Meaning> {
 }
 
 impl<M: Meaning> Model for CellTable<M> {
-    ghost use Rattle.std.specs.Prelude.{◌≡◌, ◌+◌, ◌*◌, length};
+    ghost use Rattle.std.specs.Prelude.{◌≡◌, ◌+◌, ◌*◌, ◌^◌, ◌<◌, ◌≤◌, length};
     ghost use Rattle.cell_table.specs.Rule.{values_in};
     ghost use Rattle.cell_table.specs.Pass.{TableState};
 
@@ -35,7 +35,7 @@ impl<M: Meaning> Model for CellTable<M> {
 
     ghost view = { λ t. record { id = t.words.shared.table_id; meaning = t.meaning; opening = values_in t.words.shared.key.words.value.items; callers = t.callers } };
 
-    ghost invariant = { λ t. (t.words.shared.table_id.words ≡ 2 * length (values_in t.words.shared.key.words.value.items) + 1) × (t.words.shared.table_id.slots ≡ 0) × (t.words.shared.key.meaning.value ≡ t.meaning) × (t.words.shared.key.callers ≡ t.callers) };
+    ghost invariant = { λ t. (t.words.shared.table_id.words ≡ 2 * length (values_in t.words.shared.key.words.value.items) + 1) × (t.words.shared.table_id.slots ≡ 0) × (t.words.shared.key.meaning.value ≡ t.meaning) × (t.words.shared.key.callers ≡ t.callers) × (0 < t.callers) × (t.callers ≤ 4096) × (0 < length (values_in t.words.shared.key.words.value.items)) × (length (values_in t.words.shared.key.words.value.items) ≤ 2 ^ 24) };
 }
 
 impl<M: Meaning> CellTable<M> {
@@ -45,10 +45,11 @@ impl<M: Meaning> CellTable<M> {
     ghost use Rattle.cell_table.specs.declared.view.Stage.TheVariants.{Open, Drawn};
     ghost use Rattle.cell_table.specs.declared.view.OpenRead.TheVariants.{LockRead, ValueRead};
     ghost use Rattle.cell_table.specs.Rule.{cells_of};
-    ghost use Rattle.cell_table.specs.Steps.{clocked, looked, valued, taken, missed, drawn, due, first_put, next_put, word_found, IsUndecided, MayStore, MayDecide, IsWord, HeldStand, Reads, Validated, Observes, IsStoredOrUndecided};
+    ghost use Rattle.cell_table.specs.Steps.{clocked, looked, valued, taken, missed, drawn, due, first_put, next_put, word_found, IsUndecided, MayStore, MayDecide, FoundFree, Grows, IsWord, HeldStand, Reads, Validated, Observes, IsStoredOrUndecided};
     ghost use Rattle.cell_table.specs.Steps.{AllHeld};
     ghost use Rattle.cell_table.specs.Legal.{LegalNow};
     ghost use Rattle.cell_table.specs.Seats.{record_of};
+    ghost use Rattle.cell_table.specs.Writers.{writers_in, newest_in};
     ghost use Rattle.cell_table.specs.Pass.{IsPassOf, IsHeld, IsSole, MayPut, with_view, after_put, after_give, trail_of};
 
     /// A load of the clock. The word is at least every place that the pass knows.
@@ -57,6 +58,7 @@ impl<M: Meaning> CellTable<M> {
         ensures of { IsPassOf self.now pass.new }
         ensures view { pass.new ≡ with_view pass.old (clocked pass.old.view result) }
         ensures step { trail_of pass.new ≡ trail_of pass.old ++ ClockLoaded result ∷ [] }
+        ensures grows { Grows pass.old.view pass.new.view }
         ensures later { (pass.old.seen ≤ result) × (pass.old.view.known ≤ result) }
         ensures held_stand { pass.old.view.stage ≡ Open → HeldStand pass.old.view pass.new.view result }
     {
@@ -70,6 +72,7 @@ impl<M: Meaning> CellTable<M> {
         ensures of { IsPassOf self.now pass.new }
         ensures view { pass.new ≡ with_view pass.old (looked pass.old.view cell result) }
         ensures step { trail_of pass.new ≡ trail_of pass.old ++ LockLoaded cell result ∷ [] }
+        ensures grows { Grows pass.old.view pass.new.view }
         ensures word { IsWord pass.old.view cell result }
 
         // The first look of a read, and the last one where it finds the version of the first: then the value is known.
@@ -78,7 +81,11 @@ impl<M: Meaning> CellTable<M> {
 
         // The version is the newest one up to every place that the pass knows.
         ensures still { (u : ℕ) → result ≡ 2 * u → u ≤ pass.old.view.known → Validated pass.new.view cell u pass.old.view.known }
-        ensures sole { IsSole pass.old → has cell (cells_of pass.old.view.held) ≡ false → (result % 2 ≡ 0) × (result ≤ 2 * pass.old.seen) }
+        // No version that the trail has for this cell is above the one that is found now.
+        ensures never_falls { (u w : ℕ) → result ≡ 2 * u → FoundFree (trail_of pass.old) cell w → w ≤ u }
+
+        // A pass with every caller number finds the version of the last writer in its own books.
+        ensures sole { IsSole pass.old → has cell (cells_of pass.old.view.held) ≡ false → (result % 2 ≡ 0) × (result ≤ 2 * pass.old.seen) × (result ≡ 2 * newest_in (writers_in pass.old.books) cell) }
     {
         self.words
             .shared
@@ -92,6 +99,7 @@ impl<M: Meaning> CellTable<M> {
         ensures of { IsPassOf self.now pass.new }
         ensures view { pass.new ≡ with_view pass.old (valued pass.old.view cell result) }
         ensures step { trail_of pass.new ≡ trail_of pass.old ++ ValueLoaded cell result ∷ [] }
+        ensures grows { Grows pass.old.view pass.new.view }
         ensures second { (u : ℕ) → pass.old.view.reading ≡ LockRead cell u → pass.new.view.reading ≡ ValueRead cell u result }
         ensures held_value { (u : ℕ) → Among (cell, u) pass.old.view.held → IsUndecided pass.old.view.stage → Reads pass.new.view cell u result }
     {
@@ -113,6 +121,12 @@ impl<M: Meaning> CellTable<M> {
         ensures taken { OnOk result ((pass.new ≡ record pass.old { view = taken pass.old.view cell (from / 2); places = pass.old.places - 1 }) × (has cell (cells_of pass.old.view.held) ≡ false)) }
         ensures found { IfErr result (λ found. (found ≢ from) × (pass.new ≡ with_view pass.old (missed pass.old.view cell found)) × IsWord pass.old.view cell found) }
         ensures step { trail_of pass.new ≡ trail_of pass.old ++ LockExchanged cell (word_found from result) ∷ [] }
+        ensures grows { Grows pass.old.view pass.new.view }
+        ensures still { (u : ℕ) → word_found from result ≡ 2 * u → u ≤ pass.old.view.known → Validated pass.new.view cell u pass.old.view.known }
+        ensures never_falls { (u w : ℕ) → word_found from result ≡ 2 * u → FoundFree (trail_of pass.old) cell w → w ≤ u }
+
+        // So a pass with every caller number never fails where `from` is the word of the last writer in its own books.
+        ensures sole { IsSole pass.old → has cell (cells_of pass.old.view.held) ≡ false → (word_found from result ≤ 2 * pass.old.seen) × (word_found from result ≡ 2 * newest_in (writers_in pass.old.books) cell) }
     {
         let mine = 2 * pass.caller() as u64 + 1;
         let found = self
@@ -135,6 +149,7 @@ impl<M: Meaning> CellTable<M> {
         ensures of { IsPassOf self.now pass.new }
         ensures view { pass.new ≡ with_view pass.old (drawn pass.old.view result) }
         ensures step { trail_of pass.new ≡ trail_of pass.old ++ VersionDrawn result ∷ [] }
+        ensures grows { Grows pass.old.view pass.new.view }
         ensures later { (pass.old.seen < result) × (pass.old.view.known < result) }
         ensures above { Each (λ t. t.1 < result) pass.old.view.held }
         ensures held_stand { HeldStand pass.old.view pass.new.view (result - 1) }
@@ -158,6 +173,7 @@ impl<M: Meaning> CellTable<M> {
         ensures of { IsPassOf self.now pass.new }
         ensures view { pass.new ≡ after_put pass.old cell value pass.old.plan }
         ensures step { trail_of pass.new ≡ trail_of pass.old ++ ValueStored cell value ∷ [] }
+        ensures grows { Grows pass.old.view pass.new.view }
     {
         mark_stored(&mut pass.held, cell);
         let Some(plan) = pass.plan.take() else {
@@ -221,6 +237,7 @@ impl<M: Meaning> CellTable<M> {
         ensures of { IsPassOf self.now pass.new }
         ensures view { pass.new ≡ after_give pass.old cell }
         ensures step { trail_of pass.new ≡ trail_of pass.old ++ LockStored cell (2 * due cell pass.old.view.held pass.old.view.stage) ∷ [] }
+        ensures grows { Grows pass.old.view pass.new.view }
     {
         let entry = take_held(&mut pass.held, cell);
         let version = due_version(entry, pass.drawn);

@@ -16,8 +16,8 @@ invariant_of-self g c = subst (λ (z : Vec (Ledger g.row.M-Done.Denot) Global). 
 pub overflow_sub-kept : goal.overflow_sub-kept
 overflow_sub-kept g c = let a = ap (λ (z : PassState g.row.M.Denot g.row.M-Done.Denot). length z.books) c.self.view_is in let b = noted_length c.self.inside.ledgers.items in let n = c.requires.n in let l = c.len.ensures in let k = c.self.inside.ledgers.ok in omega arith
 
-pub overflow_mul-draws : goal.overflow_mul-draws
-overflow_mul-draws g c = let a = ap (λ (z : PassState g.row.M.Denot g.row.M-Done.Denot). length z.books) c.self.view_is in let b = noted_length c.self.inside.ledgers.items in let n = c.requires.n in let l = c.len.ensures in let m = c.len-2.ensures in let k = c.self.inside.ledgers.ok in
+pub overflow_mul-share : goal.overflow_mul-share
+overflow_mul-share g c = let a = ap (λ (z : PassState g.row.M.Denot g.row.M-Done.Denot). length z.books) c.self.view_is in let b = noted_length c.self.inside.ledgers.items in let n = c.requires.n in let l = c.len.ensures in let m = c.len-2.ensures in let k = c.self.inside.ledgers.ok in
     let f = share_fits c.args.n c.len-2.result c.self.inside.draws (omega arith) (omega arith) in omega arith
 
 pub overflow_sub-self : goal.overflow_sub-self

@@ -1,7 +1,7 @@
 use Rattle.std.proofs.Common.{arith, refl, ◌∙◌}
 use Rattle.cell_table.specs.Steps.{clocked}
 use Rattle.cell_table.proofs.ClockLoad.{clocks}
-use Rattle.cell_table.proofs.Passes.{grows_clocked, pass_by, tied_by, same_table, clock_held}
+use Rattle.cell_table.proofs.Passes.{grows_clocked, pass_by, tied_by, same_table, clock_held, grows_by}
 use Rattle.cell_table.proofs.table.CellTable.clock.Goals as goal
 
 pub load-requires : goal.load-requires
@@ -22,3 +22,6 @@ invariant_of-pass g c = let told = c.load.ensures.2 in (
 
 pub returns-clause-held_stand : goal.returns-clause-held_stand
 returns-clause-held_stand g c = clock_held _ _ _ c.load.result c.pass.view_is c.load.ensures.2.0 c.load.ensures.2.2
+
+pub returns-clause-grows : goal.returns-clause-grows
+returns-clause-grows g c = let told = c.load.ensures.2 in grows_by _ _ _ (clocked c.pass.inside.seat.me.0 c.load.result) c.pass.view_is told.0 (grows_clocked _ _ told.1)

@@ -1,7 +1,7 @@
 use Rattle.std.proofs.Common.{arith, ap, ◌∙◌, ◌+◌}
 use Rattle.cell_table.specs.Pass.{PassState}
 use Rattle.cell_table.proofs.ClockAdd.{draws}
-use Rattle.cell_table.proofs.Passes.{same_table, draw_held, draw_above}
+use Rattle.cell_table.proofs.Passes.{same_table, draw_held, draw_above, grows_drawn, grows_by}
 use Rattle.cell_table.proofs.Attempts.{drawn_pass, drawn_tied}
 use Rattle.cell_table.proofs.table.CellTable.draw.Goals as goal
 
@@ -29,3 +29,6 @@ returns-clause-above g c = draw_above _ _ c.fetch_add-version.result c.pass.view
 
 pub returns-clause-held_stand : goal.returns-clause-held_stand
 returns-clause-held_stand g c = draw_held _ _ c.fetch_add-version.new.seat.me.0 c.fetch_add-version.result c.pass.view_is c.fetch_add-version.ensures.2.0 c.fetch_add-version.ensures.2.3
+
+pub returns-clause-grows : goal.returns-clause-grows
+returns-clause-grows g c = grows_by _ _ _ _ c.pass.view_is c.fetch_add-version.ensures.2.0 (grows_drawn _ _ (let l = c.fetch_add-version.ensures.2.1 in omega arith))

@@ -1,7 +1,7 @@
 use Rattle.std.proofs.Common.{arith, ap, ◌∙◌, ◌≡◌, ◌*◌, ℕ}
 use Rattle.cell_table.specs.Steps.{given}
 use Rattle.cell_table.proofs.LockStore.{gives_word}
-use Rattle.cell_table.proofs.Passes.{same_table, cell_inside, at_lock}
+use Rattle.cell_table.proofs.Passes.{same_table, cell_inside, at_lock, grows_given, grows_by}
 use Rattle.cell_table.proofs.Attempts.{held_now, held_view, stored_view, give_due, give_fits, given_pass, given_tied, given_of, given_trail, plan_gone}
 use Rattle.cell_table.proofs.table.CellTable.give_back.Goals as goal
 
@@ -38,3 +38,6 @@ pub returns-clause-step : goal.returns-clause-step
 returns-clause-step g c = let tied = c.pass.invariant.1 in let is = at_lock (λ z. c.store.new.seat.me.0 ≡ given c.pass.inside.seat.me.0 z (2 * c.due_version-version.result)) c.args.cell c.store.ensures.2.0 in
     let due = give_due c.pass.inside.seat.me.0 c.pass.inside.held.items _ _ c.args.cell _ _ tied c.pass.invariant.0.written (stored_view _ _ c.pass.view_is c.requires.stored) (held_now _ _ _ _ _ c.args.cell c.pass.view_is tied c.requires.held) c.take_held-entry.ensures.stored c.take_held-entry.ensures.version in
     given_trail _ _ c.store.new.seat.me.0 c.args.cell _ c.pass.view_is is (ap (λ (z : ℕ). 2 * z) (c.due_version-version.ensures ∙ due))
+
+pub returns-clause-grows : goal.returns-clause-grows
+returns-clause-grows g c = grows_by _ _ _ _ c.pass.view_is (at_lock (λ z. c.store.new.seat.me.0 ≡ given c.pass.inside.seat.me.0 z (2 * c.due_version-version.result)) c.args.cell c.store.ensures.2.0) (grows_given _ _ _)

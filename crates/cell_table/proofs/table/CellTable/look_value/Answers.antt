@@ -1,7 +1,7 @@
 use Rattle.std.proofs.Common.{◌∙◌, arith, refl, ◌≡◌}
 use Rattle.cell_table.specs.Steps.{valued}
 use Rattle.cell_table.proofs.ValueLoad.{loads}
-use Rattle.cell_table.proofs.Passes.{grows_valued, pass_by, tied_by, same_table, cell_inside, at_value, value_of}
+use Rattle.cell_table.proofs.Passes.{grows_valued, pass_by, tied_by, same_table, cell_inside, at_value, value_of, grows_by}
 use Rattle.cell_table.proofs.Attempts.{valued_second, valued_held}
 use Rattle.cell_table.proofs.table.CellTable.look_value.Goals as goal
 
@@ -30,3 +30,6 @@ returns-clause-second g c = λ u st. valued_second _ _ c.load.new.seat.me.0 c.ar
 
 pub returns-clause-held_value : goal.returns-clause-held_value
 returns-clause-held_value g c = λ u a st. valued_held _ _ c.load.new.seat.me.0 c.args.cell u c.load.result c.pass.view_is (at_value (λ z. c.load.new.seat.me.0 ≡ valued c.pass.inside.seat.me.0 z c.load.result) c.args.cell c.load.ensures.2.0) a st
+
+pub returns-clause-grows : goal.returns-clause-grows
+returns-clause-grows g c = grows_by _ _ _ _ c.pass.view_is (at_value (λ z. c.load.new.seat.me.0 ≡ valued c.pass.inside.seat.me.0 z c.load.result) c.args.cell c.load.ensures.2.0) (grows_valued _ _ _)

@@ -1,6 +1,7 @@
 use Rattle.std.proofs.Common.{arith, refl, ap, sym, ◌∙◌}
 use Rattle.cell_table.specs.Seats.{plan_of, record_of, reserved_in, noted_books}
 use Rattle.cell_table.proofs.Attempts.{held_now, put_may, put_may_next, put_planned, put_first_pass, put_next_pass, first_tied, next_tied, roomy_pass, entry_noted}
+use Rattle.cell_table.proofs.Passes.{grows_first_put, grows_next_put, grows_by}
 use Rattle.cell_table.proofs.table.CellTable.put_value.Goals as goal
 
 pub mark_stored-requires-clause-held : goal.mark_stored-requires-clause-held
@@ -24,3 +25,9 @@ invariant_of-pass-2 g c = let was = sym c.take.ensures.value ∙ c.in-Some.is in
       (let a = c.mark_stored.ensures.len in let b = c.mark_stored.ensures.capacity in let f = c.pass.invariant.3 in omega arith),
       c.put_first.ensures.seat.1 ∙ c.pass.invariant.4,
     )
+
+pub returns-in_default-clause-grows : goal.returns-in_default-clause-grows
+returns-in_default-clause-grows g c = grows_by _ _ _ _ c.pass.view_is c.put_next.ensures.view (grows_next_put _ _ _)
+
+pub returns-clause-grows : goal.returns-clause-grows
+returns-clause-grows g c = grows_by _ _ _ _ c.pass.view_is c.put_first.ensures.view (grows_first_put _ _ _ _ _)
