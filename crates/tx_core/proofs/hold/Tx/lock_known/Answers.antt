@@ -6,7 +6,7 @@ use Rattle.tx_core.specs.Tx.{Attempt}
 use Rattle.tx_core.proofs.Looks.{not_both}
 use Rattle.tx_core.proofs.AttemptFacts.{attempt_looks, attempt_widens}
 use Rattle.tx_core.proofs.Locking.{attempt_locks_known, others_takes, held_takes}
-use Rattle.tx_core.proofs.tx.Tx.lock_known.Goals as goal
+use Rattle.tx_core.proofs.hold.Tx.lock_known.Goals as goal
 
 -- the lock has its place, and the observation of the cell its version
 pub invariant_of-self-in-Ok-lock_seen : goal.invariant_of-self-in-Ok-lock_seen

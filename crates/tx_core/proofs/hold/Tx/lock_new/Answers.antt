@@ -8,7 +8,7 @@ use Rattle.tx_core.specs.Seen.{StandsAt}
 use Rattle.tx_core.proofs.Looks.{valued_is, looks_by}
 use Rattle.tx_core.proofs.AttemptFacts.{attempt_looks, attempt_widens, attempt_reserves}
 use Rattle.tx_core.proofs.Locking.{attempt_locks_new, others_takes, holds_only_takes, held_takes, takes_then_looks, among_inserted, word_at-new}
-use Rattle.tx_core.proofs.tx.Tx.lock_new.Goals as goal
+use Rattle.tx_core.proofs.hold.Tx.lock_new.Goals as goal
 
 -- the value that was loaded under the lock is that of the version which the lock replaced
 stands_new : (g : _) (c : goal.After-push_reserved-in-Ok-lock_cell g) → StandsAt c.look_value-value.new.pass.view c.self.inside.version c.args.cell c.look_value-value.result c.in-Ok-lock_cell.version
