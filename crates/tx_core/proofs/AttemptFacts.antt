@@ -118,6 +118,27 @@ module _ {M D : Type 0} (table : TableState M) (version : ℕ) where
     reserved = a.reserved;
   }
 
+  -- room for more writes
+  pub attempt_rooms : (p : PassState M D) (reads : Observed) (writes more : Levels) (held : Listed) (committing : Bool) → more.parent ≡ writes.parent → more.child ≡ writes.child → IsAttempt table p version reads writes held committing → IsAttempt table p version reads more held committing
+  attempt_rooms p reads writes more held committing parent child a = record {
+    of = a.of;
+    few = a.few;
+    begun = a.begun;
+    observed = a.observed;
+    written = rw parent a.written;
+    no_child = child ∙ a.no_child;
+    holds = a.holds;
+    in_table = a.in_table;
+    sized = a.sized;
+    met = λ c r w. a.met c r (rw (← parent) w);
+    pinned = a.pinned;
+    undecided = a.undecided;
+    undrawn = a.undrawn;
+    nothing_drawn = a.nothing_drawn;
+    early = a.early;
+    reserved = a.reserved;
+  }
+
   -- one more write
   pub attempt_writes : (p : PassState M D) (reads : Observed) (writes more : Levels) (held : Listed) (committing : Bool) (cell x : ℕ) → IsAttempt table p version reads writes held committing → cell < length table.opening → more.parent ≡ put writes.parent cell x → more.child ≡ [] → ((c : ℕ) → word_at more.parent c ≡ (if eqb cell c then Some x else word_at writes.parent c)) → IsAttempt table p version reads more held committing
   attempt_writes p reads writes more held committing cell x a there parent child words = record {
