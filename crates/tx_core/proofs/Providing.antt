@@ -1,5 +1,5 @@
 -- What keeps the room of an attempt.
-use Rattle.std.proofs.Common.{◌≡◌, ◌≢◌, ℕ, zero, suc, ◌+◌, ◌*◌, ◌^◌, ◌<◌, ◌≤◌, Bool, true, false, List, [], ◌∷◌, ◌++◌, length, nat_eq, Option, Some, None, MatchOption, inl, inr, refl, sym, ap, ◌∙◌, arith}
+use Rattle.std.proofs.Common.{◌≡◌, ◌≢◌, ℕ, zero, suc, ◌+◌, ◌-◌, ◌*◌, ◌^◌, if◌then◌else◌, ◌<◌, ◌≤◌, Bool, true, false, List, [], ◌∷◌, ◌++◌, length, nat_eq, Option, Some, None, MatchOption, inl, inr, refl, sym, ap, ◌∙◌, arith}
 use Rattle.std.proofs.Math.Decide.{ℕ_discrete}
 use Rattle.std.proofs.lemmas.Bool.Decides.{nat_tests}
 use Rattle.std.proofs.lemmas.List.{length_push}
@@ -67,6 +67,11 @@ twice_taken spare a b part value has first others parts once =
 pub twice_after : (spare : Spare) (a b : List Waiting) (part : ℕ) (taken : Option ℕ) → HasTwoEach spare a → MatchOption taken ((waiting_of a part ≡ []) × (b ≡ a)) (λ value. (waiting_of a part ≡ value ∷ waiting_of b part) × ChangesOnly a b part (waiting_of b part)) → HasTwoEach spare b
 twice_after spare a b part None has same = rw same.1 has
 twice_after spare a b part (Some value) has changes = twice_taken spare a b part value has changes.0 changes.1.others
+
+-- a write takes one place where its cell wasn't written
+pub left_fits : (b : Bool) (spare reserved left now : ℕ) → left ≡ spare - (if b then 0 else 1) → now + (if b then 0 else 1) ≡ reserved → spare ≤ reserved → (left ≤ now) × (left ≤ spare)
+left_fits true spare reserved left now l n le = (omega (arith, l, n, le), omega (arith, l))
+left_fits false spare reserved left now l n le = (omega (arith, l, n, le), omega (arith, l))
 
 module _ {M D : Type 0} where
   -- other additions wait, for which as much is kept

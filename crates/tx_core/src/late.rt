@@ -138,10 +138,9 @@ impl<'a, M: Meaning> Tx<'a, M> {
         ensures written { self.new ≡ record self.old { writes = put self.old.writes cell value; spare = record self.old.spare { writes = self.old.spare.writes - (if is_some (word_at self.old.writes cell) then 0 else 1) }; committing = true } }
     {
         self.committing = true;
-        if self.writes.get(cell).is_none() {
-            self.spare.writes -= 1;
-        }
+        let written = self.writes.get(cell).is_some();
         self.writes.put_reserved(cell, value);
+        self.spare.writes = left_after(self.spare.writes, written);
     }
 
     /// Validates every observation, in the order in which they were made, after one load of the clock. Takes no memory.
@@ -170,4 +169,12 @@ impl<'a, M: Meaning> Tx<'a, M> {
             }
         }
     }
+}
+
+// How many of the places for writes are left after one write, of a cell that was written before or not.
+fn left_after(writes: u32, written: bool) -> u32
+    requires { written ≡ false → 0 < writes }
+    ensures { result ≡ writes - (if written then 0 else 1) }
+{
+    if written { writes } else { writes - 1 }
 }
