@@ -3,7 +3,9 @@
 #![tactic(auto)]
 
 mod check;
+mod commit;
 mod gives;
+mod locks;
 mod steps;
 mod stop;
 mod tx;

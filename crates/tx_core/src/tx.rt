@@ -15,15 +15,15 @@ use std::marker::Model;
 ///
 /// Each value that it read is the cell's value at its version.
 pub struct Tx<'a, M: Meaning> {
-    table: &'a CellTable<M>,
-    pass: Pass<M>,
-    version: u64,
-    reads: ReadSet,
-    writes: WriteSet,
-    held: CellList,
-    notes: Vec<M::Done, Global>,
-    state: TxState,
-    committing: bool,
+    pub(crate) table: &'a CellTable<M>,
+    pub(crate) pass: Pass<M>,
+    pub(crate) version: u64,
+    pub(crate) reads: ReadSet,
+    pub(crate) writes: WriteSet,
+    pub(crate) held: CellList,
+    pub(crate) notes: Vec<M::Done, Global>,
+    pub(crate) state: TxState,
+    pub(crate) committing: bool,
 }
 
 impl<'a, M: Meaning> Model for Tx<'a, M> {
