@@ -1,5 +1,5 @@
 //! The commit of an attempt that writes.
-ghost use Rattle.std.specs.Prelude.{◌≡◌, ℕ, ◌+◌, ◌*◌, ◌-◌, ◌<◌, ◌≤◌, false, true, length, Some, None, IsSome, IfErr, OnOk};
+ghost use Rattle.std.specs.Prelude.{◌≡◌, ℕ, ◌+◌, ◌*◌, ◌-◌, ◌<◌, ◌≤◌, false, true, length, Some, None, IsSome, IsOk, IfErr, OnOk};
 
 use crate::locks::lock_all;
 use crate::stop::{Stop, TxState};
@@ -10,7 +10,7 @@ impl<'a, M: Meaning> Tx<'a, M> {
     ghost use Rattle.cell_table.specs.Cells.{has};
     ghost use Rattle.cell_table.specs.Rule.{callers_of, cells_of};
     ghost use Rattle.cell_table.specs.declared.view.Stage.TheVariants.{Open};
-    ghost use Rattle.cell_table.specs.Pass.{IsHeld, trail_of};
+    ghost use Rattle.cell_table.specs.Pass.{IsHeld, IsSole, trail_of};
     ghost use Rattle.attempt_lists.specs.Cells.{word_at};
     ghost use Rattle.tx_core.specs.declared.stop.TxState.TheVariants.{Running, Stopped};
     ghost use Rattle.tx_core.specs.Causes.{CausedSince, FoundTwice, IsFoundAt, IsOfOne, GrewBy};
@@ -34,6 +34,7 @@ impl<'a, M: Meaning> Tx<'a, M> {
         ensures pass { HoldsOnly self.old.pass self.new.pass }
         ensures others { (c : ℕ) → word_at self.old.writes c ≡ None → has c (cells_of self.new.pass.view.held) ≡ has c (cells_of self.old.pass.view.held) }
         ensures kept { (c : ℕ) → IsHeld self.old.pass c → IsHeld self.new.pass c }
+        ensures sole { IsSole self.old.pass → IsOk result }
         ensures steps { GrewBy (2 * length self.old.writes) (trail_of self.old.pass) (trail_of self.new.pass) }
     {
         self.committing = true;

@@ -33,6 +33,7 @@ pub(crate) fn lock_newest<M: Meaning>(
     ensures steps { GrewBy 2 (trail_of pass.old) (trail_of pass.new) }
     ensures cause { IfErr result (IsCausedAt cell (callers_of pass.old.view.books) version (length (trail_of pass.old)) (trail_of pass.new)) }
     ensures twice { IfErr result (FoundTwice (length (trail_of pass.old)) (trail_of pass.new)) }
+    ensures sole { IsSole pass.old → IsOk result }
 {
     let word = table.look_lock(pass, cell);
     let Some(found) = free_version(word) else {
@@ -66,6 +67,7 @@ pub(crate) fn lock_late<M: Meaning>(
     ensures steps { GrewBy 2 (trail_of pass.old) (trail_of pass.new) }
     ensures cause { IfErr result (IsCausedAt cell (callers_of pass.old.view.books) version (length (trail_of pass.old)) (trail_of pass.new)) }
     ensures twice { word_at reads.now.observations cell ≡ None → IfErr result (FoundTwice (length (trail_of pass.old)) (trail_of pass.new)) }
+    ensures sole { IsSole pass.old → pass.old.seen ≤ version → IsOk result }
 {
     // No cell was observed twice.
     let _ = reads.as_slice();
@@ -104,6 +106,7 @@ fn lock_at<M: Meaning>(
     ensures steps { GrewBy 2 (trail_of pass.old) (trail_of pass.new) }
     ensures cause { IfErr result (IsCausedAt (cell_at writes.now.parent index) (callers_of pass.old.view.books) version (length (trail_of pass.old)) (trail_of pass.new)) }
     ensures twice { word_at reads.now.observations (cell_at writes.now.parent index) ≡ None → IfErr result (FoundTwice (length (trail_of pass.old)) (trail_of pass.new)) }
+    ensures sole { IsSole pass.old → IsOk result }
 {
     let (cell, _) = writes.parent()[index];
     if held.get(cell).is_some() {
@@ -139,6 +142,7 @@ pub(crate) fn lock_all<M: Meaning>(
     ensures steps { GrewBy (2 * length writes.now.parent) (trail_of pass.old) (trail_of pass.new) }
     ensures cause { IfErr result (λ stop. IsOfOne writes.now.parent stop × CausedSince (callers_of pass.old.view.books) version (length (trail_of pass.old)) (trail_of pass.new) stop) }
     ensures twice { IfErr result (λ stop. (c : ℕ) → IsFoundAt c stop → word_at reads.now.observations c ≡ None → FoundTwice (length (trail_of pass.old)) (trail_of pass.new) stop) }
+    ensures sole { IsSole pass.old → IsOk result }
 {
     for index in 0..writes.parent().len() {
         if let Err(stop) = lock_at(table, pass, reads, writes, held, index, version) {
