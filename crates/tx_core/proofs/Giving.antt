@@ -21,7 +21,7 @@ pub record IsGiving {M D : Type 0} (table : TableState M) (first : PassState M D
   pub of : IsPassOf table p
   pub holds : (c : ℕ) → has c (cells_of p.view.held) ≡ is_some (word_at held c)
   pub in_table : All (λ c. c < length table.opening) (keys_of held)
-  pub undecided : IsUndecided p.view.stage
+  pub stored : IsStoredOrUndecided p.view.stage
   pub undrawn : p.view.held ≡ [] → p.view.stage ≡ Open
   pub gives : GivesBack first p
   pub more : List Event
@@ -53,9 +53,9 @@ stored_or_undecided Open h = tt
 stored_or_undecided (Drawn u) h = tt
 stored_or_undecided (Decided u r stored) h = absurd h
 
-undecided_after : {D : Type 0} (hs : List (ℕ × ℕ)) (st : Stage D) → IsUndecided st → IsUndecided (after_release hs st)
-undecided_after [] st h = tt
-undecided_after (t ∷ ts) st h = h
+stored_after : {D : Type 0} (hs : List (ℕ × ℕ)) (st : Stage D) → IsStoredOrUndecided st → IsStoredOrUndecided (after_release hs st)
+stored_after [] st h = tt
+stored_after (t ∷ ts) st h = h
 
 open_after : {D : Type 0} (hs : List (ℕ × ℕ)) (st : Stage D) → hs ≡ [] → after_release hs st ≡ Open
 open_after [] st none = refl
@@ -77,7 +77,7 @@ module _ {M D : Type 0} (table : TableState M) (start : PassState M D) (all : En
   giving_cell p held rest e g is = (
     (all_before _ rest e (rw is at g.in_table)).1,
     g.holds e.0 ∙ rw is (word_at-here rest e.0 e.1),
-    stored_or_undecided p.view.stage g.undecided,
+    g.stored,
   )
 
   -- and the others are left
@@ -90,7 +90,7 @@ module _ {M D : Type 0} (table : TableState M) (start : PassState M D) (all : En
         of = of;
         holds = λ c. rw kept (has_without c e.0 p.view.held ∙ ap (λ b. if eqb e.0 c then false else b) (g.holds c ∙ rw is refl) ∙ sym (word_at-last rest e.0 e.1 c gone));
         in_table = (all_before _ rest e (rw is at g.in_table)).0;
-        undecided = rw stage (undecided_after (without e.0 p.view.held) p.view.stage g.undecided);
+        stored = rw stage (stored_after (without e.0 p.view.held) p.view.stage g.stored);
         undrawn = λ none. stage ∙ open_after (without e.0 p.view.held) p.view.stage (sym kept ∙ none);
         gives = record {
           grows = grows_trans start.view p.view q.view g.gives.grows (rw view (record { meaning = refl; opening = refl; total = refl; known = omega arith; values = λ t h. h; validations = λ t h. h }));
@@ -106,12 +106,12 @@ module _ {M D : Type 0} (table : TableState M) (start : PassState M D) (all : En
         left = omega (arith, g.left, ap length is, length_push rest e, length_push g.more step);
       }
 
-  pub giving_begins : IsPassOf table start → ((c : ℕ) → has c (cells_of start.view.held) ≡ is_some (word_at all c)) → All (λ c. c < length table.opening) (keys_of all) → IsUndecided start.view.stage → (start.view.held ≡ [] → start.view.stage ≡ Open) → IsGiving table start all start all
-  giving_begins of holds in_table undecided undrawn = record {
+  pub giving_begins : IsPassOf table start → ((c : ℕ) → has c (cells_of start.view.held) ≡ is_some (word_at all c)) → All (λ c. c < length table.opening) (keys_of all) → IsStoredOrUndecided start.view.stage → (start.view.held ≡ [] → start.view.stage ≡ Open) → IsGiving table start all start all
+  giving_begins of holds in_table stored undrawn = record {
     of = of;
     holds = holds;
     in_table = in_table;
-    undecided = undecided;
+    stored = stored;
     undrawn = undrawn;
     gives = record { grows = record { meaning = refl; opening = refl; total = refl; known = omega arith; values = λ t h. h; validations = λ t h. h }; known = refl; draws = refl; books = refl; seen = refl; room = refl; reserved = refl };
     more = [];

@@ -7,3 +7,4 @@ pub mod Giving
 pub mod Locking
 pub mod Checking
 pub mod LateLocks
+pub mod Storing

@@ -7,6 +7,7 @@ mod commit;
 mod gives;
 mod locks;
 mod steps;
+mod stores;
 mod stop;
 mod tx;
 mod untold;
