@@ -29,36 +29,12 @@ module _ {M D : Type 0} where
   kept_takes p q cell u c t h = ap (λ l. has c (cells_of l)) t.held ∙ has_insert c cell u p.view.held ∙ grind (arith, nat_tests, h)
 
 module _ {M D : Type 0} (table : TableState M) (version : ℕ) where
-  -- one reserved place is given up
-  attempt_spends : (p : PassState M D) (reads : Observed) (writes : Levels) (held : Listed) → IsAttempt table p version reads writes held true → IsAttempt table p version reads writes (record held { reserved = held.reserved - 1 }) true
-  attempt_spends p reads writes held a = record {
-    of = a.of;
-    few = a.few;
-    begun = a.begun;
-    observed = a.observed;
-    written = a.written;
-    no_child = a.no_child;
-    holds = a.holds;
-    in_table = a.in_table;
-    sized = a.sized;
-    met = a.met;
-    pinned = a.pinned;
-    undecided = a.undecided;
-    undrawn = a.undrawn;
-    reserved = a.reserved;
-    locks = omega (arith, a.locks);
-    room = λ before. absurd (true_false before);
-  }
-    where
-      true_false : true ≡ false → ⊥
-      true_false e = cc
-
   -- a written cell is locked at a reserved place
-  pub attempt_locks_reserved : (p q : PassState M D) (reads : Observed) (writes : Levels) (held more : Listed) (cell u i : ℕ) → IsAttempt table p version reads writes held true → 0 < held.reserved → Takes p q cell u → IsPassOf table q → p.view.stage ≡ Open → more.entries ≡ held.entries ++ (cell, u) ∷ [] → more.reserved + 1 ≡ held.reserved → i < length writes.parent → cell ≡ cell_at writes.parent i
+  pub attempt_locks_reserved : (p q : PassState M D) (reads : Observed) (writes : Levels) (held more : Listed) (cell u i : ℕ) → IsAttempt table p version reads writes held true → Takes p q cell u → IsPassOf table q → p.view.stage ≡ Open → more.entries ≡ held.entries ++ (cell, u) ∷ [] → i < length writes.parent → cell ≡ cell_at writes.parent i
       → ((i : ℕ) → i < length reads.observations → cell_at reads.observations i ≡ cell → slice_index reads.versions i ≡ u)
       → IsAttempt table q version reads writes more true
-  attempt_locks_reserved p q reads writes held more cell u i a some t of stage pushed used lt is at_u =
-      attempt_locks_known table version p p q reads writes (record held { reserved = held.reserved - 1 }) held more true cell u (attempt_spends p reads writes held a) refl refl (omega (arith, some)) a.locks t of stage pushed used
+  attempt_locks_reserved p q reads writes held more cell u i a t of stage pushed lt is at_u =
+      attempt_locks_known table version p p q reads writes held held more true cell u a refl refl t of stage pushed
       (rw is (cell_there (λ c. c < length table.opening) writes.parent i a.written lt))
       (λ r w. no_entry writes.parent cell i w lt (sym is))
       at_u
@@ -101,31 +77,34 @@ pub record IsLocking {M D : Type 0} (table : TableState M) (version : ℕ) (read
   pub pass : HoldsOnly start p
   pub others : (c : ℕ) → word_at writes.parent c ≡ None → has c (cells_of p.view.held) ≡ has c (cells_of start.view.held)
   pub kept : (c : ℕ) → IsHeld start c → IsHeld p c
+  pub places : held.reserved ≤ p.places
   pub left : room ≤ held.reserved + n
   pub grew : GrewBy (2 * n) (trail_of start) (trail_of p)
 
 module _ {M D : Type 0} (table : TableState M) (version : ℕ) (reads : Observed) (writes : Levels) (start : PassState M D) (room : ℕ) where
-  pub locking_begins : (held : Listed) → IsAttempt table start version reads writes held true → start.view.stage ≡ Open → room ≤ held.reserved → IsLocking table version reads writes start room 0 0 start held
-  locking_begins held a stage wide = record {
+  pub locking_begins : (held : Listed) → IsAttempt table start version reads writes held true → start.view.stage ≡ Open → held.reserved ≤ start.places → room ≤ held.reserved → IsLocking table version reads writes start room 0 0 start held
+  locking_begins held a stage places wide = record {
     attempt = a;
     undrawn = stage;
     locked = λ i lt. absurd (omega arith);
     pass = holds_only_none start;
     others = λ c none. refl;
     kept = λ c h. h;
+    places = places;
     left = omega arith;
     grew = grew_none (trail_of start);
   }
 
   -- one more cell was tried
-  pub locking_tries : (n m : ℕ) (p q : PassState M D) (held more : Listed) → IsLocking table version reads writes start room n m p held → n < length writes.parent → IsAttempt table q version reads writes more true → HoldsOnly p q → SameOthers p q (cell_at writes.parent n) → ((c : ℕ) → IsHeld p c → IsHeld q c) → held.reserved ≤ more.reserved + 1 → GrewBy 2 (trail_of p) (trail_of q) → IsLocking table version reads writes start room (n + 1) m q more
-  locking_tries n m p q held more l lt a only same kept used grew = record {
+  pub locking_tries : (n m : ℕ) (p q : PassState M D) (held more : Listed) → IsLocking table version reads writes start room n m p held → n < length writes.parent → IsAttempt table q version reads writes more true → HoldsOnly p q → SameOthers p q (cell_at writes.parent n) → ((c : ℕ) → IsHeld p c → IsHeld q c) → more.reserved ≤ q.places → held.reserved ≤ more.reserved + 1 → GrewBy 2 (trail_of p) (trail_of q) → IsLocking table version reads writes start room (n + 1) m q more
+  locking_tries n m p q held more l lt a only same kept places used grew = record {
     attempt = a;
     undrawn = only.stage ∙ l.undrawn;
     locked = λ i low. kept _ (l.locked i low);
     pass = holds_only_trans start p q l.pass only;
     others = λ c none. same c (λ is. not_there c none is) ∙ l.others c none;
     kept = λ c h. kept c (l.kept c h);
+    places = places;
     left = omega (arith, l.left, used);
     grew = grew_more (2 * n + 2) _ _ _ (omega arith) (grew_trans (2 * n) 2 _ _ _ l.grew grew);
   }
@@ -145,6 +124,7 @@ module _ {M D : Type 0} (table : TableState M) (version : ℕ) (reads : Observed
     pass = l.pass;
     others = l.others;
     kept = l.kept;
+    places = l.places;
     left = l.left;
     grew = l.grew;
   }

@@ -8,3 +8,4 @@ pub mod Locking
 pub mod Checking
 pub mod LateLocks
 pub mod Storing
+pub mod Providing

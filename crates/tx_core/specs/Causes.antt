@@ -6,6 +6,8 @@ use Rattle.cell_table.specs.declared.view.Event.TheVariants.{LockLoaded, LockExc
 use Rattle.attempt_lists.specs.Cells.{Entries, word_at}
 use Rattle.tx_core.specs.declared.stop.Stop.{Stop}
 use Rattle.tx_core.specs.declared.stop.Stop.TheVariants.{Held, Newer, Memory}
+use Rattle.tx_core.specs.declared.stop.TxState.{TxState}
+use Rattle.tx_core.specs.declared.stop.TxState.TheVariants.{Running, Stopped}
 
 -- a load or a compare-exchange of the cell's lock word, from place n of the trail on, found this word
 abbrev pub FoundSince : ℕ → List Event → ℕ → ℕ → Type 0
@@ -53,6 +55,12 @@ abbrev pub FoundTwice : ℕ → List Event → Stop → Type 0
 FoundTwice n trail (Held cell owner) = Unit {0}
 FoundTwice n trail (Newer cell found) = (v : ℕ) × (v < found) × FoundSince n trail cell (2 * v)
 FoundTwice n trail Memory = Unit {0}
+
+-- the state that a call leaves after a stop which spares the attempt: want of memory alone stops it
+abbrev pub spared_by : Stop → TxState
+spared_by (Held cell owner) = Running
+spared_by (Newer cell found) = Running
+spared_by Memory = Stopped
 
 -- the trail grew by at most so many steps
 abbrev pub GrewBy : ℕ → List Event → List Event → Type 0

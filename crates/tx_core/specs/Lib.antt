@@ -1,3 +1,4 @@
+pub mod Additions
 pub mod Causes
 pub mod Seen
 pub mod Stored

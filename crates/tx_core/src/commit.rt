@@ -9,7 +9,6 @@ use cell_table::Meaning;
 impl<'a, M: Meaning> Tx<'a, M> {
     ghost use Rattle.cell_table.specs.Cells.{has};
     ghost use Rattle.cell_table.specs.Rule.{callers_of, cells_of};
-    ghost use Rattle.cell_table.specs.declared.view.Stage.TheVariants.{Open};
     ghost use Rattle.cell_table.specs.Pass.{IsHeld, IsSole, trail_of};
     ghost use Rattle.attempt_lists.specs.Cells.{word_at};
     ghost use Rattle.tx_core.specs.declared.stop.TxState.TheVariants.{Running, Stopped};
@@ -23,7 +22,6 @@ impl<'a, M: Meaning> Tx<'a, M> {
     pub fn lock_writes(&mut self) -> Result<(), Stop>
         requires running { self.old.state ≡ Running }
         requires first { self.old.committing ≡ false }
-        requires undrawn { self.old.pass.view.stage ≡ Open }
         ensures all_held { OnOk result ((c : ℕ) → IsSome (word_at self.old.writes c) → IsHeld self.new.pass c) }
         ensures same { OnOk result (self.new ≡ record self.old { pass = self.new.pass; committing = true }) }
         ensures stopped { IfErr result (λ stop. self.new ≡ record self.old { pass = self.new.pass; state = Stopped; committing = true }) }

@@ -14,26 +14,47 @@ use attempt_lists::CellList;
 use cell_table::{CellTable, Meaning, Pass};
 use std::alloc::AllocError;
 
-/// Reserves room for one more lock beside those reserved already, in the list of held cells and in the pass.
+/// Sees that there is room for one more lock beside those promised, in the list of held cells and in the pass.
 pub(crate) fn reserve_lock<M: Meaning>(
     pass: &mut Pass<M>,
     held: &mut CellList,
+    promised: usize,
+) -> Result<(), AllocError>
+    requires locks { held.old.reserved ≤ pass.old.places }
+    requires promised { promised ≤ held.old.reserved }
+    ensures pass { pass.new ≡ record pass.old { places = pass.new.places } }
+    ensures entries { held.new.entries ≡ held.old.entries }
+    ensures locks { held.new.reserved ≤ pass.new.places }
+    ensures kept { held.old.reserved ≤ held.new.reserved }
+    ensures ok { OnOk result (promised < held.new.reserved) }
+{
+    if promised < held.reserved() {
+        return Ok(());
+    }
+    reserve_more_locks(pass, held, 1)
+}
+
+/// Reserves room for more locks beside those reserved already.
+pub(crate) fn reserve_more_locks<M: Meaning>(
+    pass: &mut Pass<M>,
+    held: &mut CellList,
+    more: u32,
 ) -> Result<(), AllocError>
     requires locks { held.old.reserved ≤ pass.old.places }
     ensures pass { pass.new ≡ record pass.old { places = pass.new.places } }
     ensures entries { held.new.entries ≡ held.old.entries }
     ensures locks { held.new.reserved ≤ pass.new.places }
-    ensures ok { OnOk result (held.new.reserved ≡ held.old.reserved + 1) }
+    ensures ok { OnOk result (held.new.reserved ≡ held.old.reserved + more) }
     ensures err { OnErr result (held.new.reserved ≡ held.old.reserved) }
 {
     let Ok(reserved) = u32::try_from(held.reserved()) else {
         return Err(AllocError);
     };
-    let Some(locks) = reserved.checked_add(1) else {
+    let Some(locks) = reserved.checked_add(more) else {
         return Err(AllocError);
     };
     pass.reserve_locks(locks)?;
-    held.reserve(1)
+    held.reserve(more as usize)
 }
 
 /// Gives all held cells back, the last one first, while nothing is decided or once all values are stored.

@@ -6,7 +6,7 @@ ghost use Rattle.cell_table.specs.declared.view.Stage.TheVariants.{Open};
 ghost use Rattle.cell_table.specs.Pass.{IsPassOf, IsSole, IsHeld, trail_of};
 ghost use Rattle.attempt_lists.specs.Cells.{word_at, cell_at, word_of};
 ghost use Rattle.tx_core.specs.Causes.{IsCausedAt, CausedSince, IsFoundAt, IsOfOne, FoundTwice, GrewBy};
-ghost use Rattle.tx_core.specs.Seen.{LooksOnly, StandsAt, Takes, HoldsOnly, SameOthers};
+ghost use Rattle.tx_core.specs.Seen.{LooksOnly, IsSeen, Takes, HoldsOnly, SameOthers};
 ghost use Rattle.tx_core.specs.Tx.{IsAttempt};
 
 use crate::steps::{stop_at, take_from};
@@ -59,7 +59,7 @@ pub(crate) fn lock_late<M: Meaning>(
     requires free { has cell (cells_of pass.old.view.held) ≡ false }
     requires undrawn { pass.old.view.stage ≡ Open }
     requires place { 0 < pass.old.places }
-    requires observed { (i : ℕ) → i < length reads.now.observations → StandsAt pass.old.view version (cell_at reads.now.observations i) (word_of reads.now.observations i) (slice_index reads.now.versions i) }
+    requires observed { (i : ℕ) → i < length reads.now.observations → IsSeen pass.old.view version (cell_at reads.now.observations i) (word_of reads.now.observations i) (slice_index reads.now.versions i) }
     ensures of { IsPassOf table.now pass.new }
     ensures takes { IfOk result (λ u. Takes pass.old pass.new cell u × (2 * u < 2 ^ 64)) }
     ensures seen { IfOk result (λ u. (i : ℕ) → i < length reads.now.observations → cell_at reads.now.observations i ≡ cell → slice_index reads.now.versions i ≡ u) }
@@ -96,12 +96,14 @@ fn lock_at<M: Meaning>(
     requires attempt { IsAttempt table.now pass.old version reads.now writes.now held.old true }
     requires undrawn { pass.old.view.stage ≡ Open }
     requires index { index < length writes.now.parent }
+    requires locks { held.old.reserved ≤ pass.old.places }
     requires room { 0 < held.old.reserved }
     ensures attempt { IsAttempt table.now pass.new version reads.now writes.now held.new true }
     ensures held { OnOk result (IsHeld pass.new (cell_at writes.now.parent index)) }
     ensures pass { HoldsOnly pass.old pass.new }
     ensures others { SameOthers pass.old pass.new (cell_at writes.now.parent index) }
     ensures kept { (c : ℕ) → IsHeld pass.old c → IsHeld pass.new c }
+    ensures locks { held.new.reserved ≤ pass.new.places }
     ensures room { held.old.reserved ≤ held.new.reserved + 1 }
     ensures steps { GrewBy 2 (trail_of pass.old) (trail_of pass.new) }
     ensures cause { IfErr result (IsCausedAt (cell_at writes.now.parent index) (callers_of pass.old.view.books) version (length (trail_of pass.old)) (trail_of pass.new)) }
@@ -132,12 +134,14 @@ pub(crate) fn lock_all<M: Meaning>(
 ) -> Result<(), Stop>
     requires attempt { IsAttempt table.now pass.old version reads.now writes.now held.old true }
     requires undrawn { pass.old.view.stage ≡ Open }
+    requires locks { held.old.reserved ≤ pass.old.places }
     requires room { length writes.now.parent ≤ held.old.reserved }
     ensures attempt { IsAttempt table.now pass.new version reads.now writes.now held.new true }
     ensures all_held { OnOk result ((c : ℕ) → IsSome (word_at writes.now.parent c) → IsHeld pass.new c) }
     ensures pass { HoldsOnly pass.old pass.new }
     ensures others { (c : ℕ) → word_at writes.now.parent c ≡ None → has c (cells_of pass.new.view.held) ≡ has c (cells_of pass.old.view.held) }
     ensures kept { (c : ℕ) → IsHeld pass.old c → IsHeld pass.new c }
+    ensures locks { held.new.reserved ≤ pass.new.places }
     ensures room { held.old.reserved ≤ held.new.reserved + length writes.now.parent }
     ensures steps { GrewBy (2 * length writes.now.parent) (trail_of pass.old) (trail_of pass.new) }
     ensures cause { IfErr result (λ stop. IsOfOne writes.now.parent stop × CausedSince (callers_of pass.old.view.books) version (length (trail_of pass.old)) (trail_of pass.new) stop) }

@@ -9,13 +9,13 @@ use Rattle.tx_core.proofs.locks.lock_all.Goals as goal
 use Rattle.tx_core.proofs.locks.lock_all.Goals.{After-lock_at}
 
 pub loop-index-init : goal.loop-index-init
-loop-index-init g c = locking_begins _ _ _ _ c.args.pass.now _ c.args.held.now c.requires.attempt c.requires.undrawn (omega arith)
+loop-index-init g c = locking_begins _ _ _ _ c.args.pass.now _ c.args.held.now c.requires.attempt c.requires.undrawn c.requires.locks (omega arith)
 
 -- one more cell was tried
 tried : (g : _) (c : After-lock_at g) → IsLocking c.args.table.now c.args.version c.args.reads.now c.args.writes.now c.args.pass.now c.args.held.now.reserved (c.loop-index.index + 1) c.loop-index.index c.lock_at.new.pass c.lock_at.new.held
 tried g c =
     let e = c.lock_at.ensures in
-    locking_tries _ _ _ _ c.args.pass.now _ c.loop-index.index c.loop-index.index c.loop-index.pass c.lock_at.new.pass c.loop-index.held c.lock_at.new.held c.loop-index.invariant (omega (arith, ap length c.parent-index-end.ensures.entries)) e.attempt e.pass e.others e.kept e.room e.steps
+    locking_tries _ _ _ _ c.args.pass.now _ c.loop-index.index c.loop-index.index c.loop-index.pass c.lock_at.new.pass c.loop-index.held c.lock_at.new.held c.loop-index.invariant (omega (arith, ap length c.parent-index-end.ensures.entries)) e.attempt e.pass e.others e.kept e.locks e.room e.steps
 
 pub returns-clause-all_held : goal.returns-clause-all_held
 returns-clause-all_held g c = λ d some.
