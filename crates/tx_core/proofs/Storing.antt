@@ -1,5 +1,5 @@
 -- The stores of a record, one after another.
-use Rattle.std.proofs.Common.{◌≡◌, ℕ, zero, suc, ◌+◌, ◌-◌, ◌<◌, ◌≤◌, eqb, Bool, true, false, cond, List, [], ◌∷◌, ◌++◌, length, slice_get, slice_index_or, Some, None, inl, inr, refl, sym, ap, subst, ◌∙◌, arith}
+use Rattle.std.proofs.Common.{◌≡◌, ℕ, zero, suc, ◌+◌, ◌-◌, ◌<◌, ◌≤◌, eqb, Bool, true, false, cond, List, [], ◌∷◌, ◌++◌, length, slice_get, slice_index_or, Some, None, IsSome, inl, inr, refl, sym, ap, subst, ◌∙◌, arith}
 use Rattle.std.proofs.Math.Decide.{ℕ_discrete}
 use Rattle.std.proofs.lemmas.Bool.{cases_lt}
 use Rattle.std.proofs.lemmas.Bool.Decides.{nat_tests}
@@ -16,11 +16,12 @@ use Rattle.cell_table.specs.Seats.{noted_all}
 use Rattle.cell_table.specs.Steps.{Grows, AllHeld, first_put, next_put, more_stored}
 use Rattle.cell_table.specs.IsPass.{writer_books}
 use Rattle.cell_table.specs.Pass.{TableState, PassState, IsPassOf, IsHeld, MayPut, after_put, note, trail_of, version_drawn}
-use Rattle.attempt_lists.specs.Cells.{Entries, IsAscending, cell_at, word_of}
+use Rattle.attempt_lists.specs.Cells.{Entries, IsAscending, cell_at, word_at, word_of}
 use Rattle.tx_core.specs.Causes.{GrewBy}
 use Rattle.tx_core.specs.Stored.{Stores, writes_of_last, last_writes}
 use Rattle.tx_core.proofs.Looks.{grows_trans}
 use Rattle.tx_core.proofs.Found.{grew_step}
+use Rattle.tx_core.proofs.LateLocks.{word_there}
 
 module _ {D : Type 0} where
   -- the writes of the last one of some entries
@@ -183,3 +184,7 @@ module _ {D : Type 0} where
   pub last_note : (place : ℕ) (r : Record D) (bs : List (NotedBook D)) → 0 < length (writer_books bs) → last_writes (note place true r bs) ≡ r.writes
   last_note place r [] some = absurd (omega (arith, some))
   last_note place r (b ∷ bs) some = last_noted b.entries _
+
+-- a cell that is written has a word
+pub writes_some : (es : Entries) (c : ℕ) → writes_to es c ≡ true → IsSome (word_at es c)
+writes_some es c h = let at = write_place es c h in subst (λ d. IsSome (word_at es d)) at.2 (word_there es at.0 at.1)

@@ -1,16 +1,20 @@
 //! The commit of an attempt that writes.
 ghost use Rattle.std.specs.Prelude.{◌≡◌, ℕ, ◌+◌, ◌*◌, ◌-◌, ◌<◌, ◌≤◌, false, true, length, Some, None, IsSome, IsOk, IfErr, OnOk};
 
+use crate::gives::give_back_all;
 use crate::locks::lock_all;
 use crate::stop::{Stop, TxState};
+use crate::stores::store_all;
 use crate::tx::Tx;
-use cell_table::Meaning;
+use cell_table::{Meaning, Pass};
 
 impl<'a, M: Meaning> Tx<'a, M> {
     ghost use Rattle.cell_table.specs.Cells.{has};
     ghost use Rattle.cell_table.specs.Rule.{callers_of, cells_of};
-    ghost use Rattle.cell_table.specs.Pass.{IsHeld, IsSole, trail_of};
-    ghost use Rattle.attempt_lists.specs.Cells.{word_at};
+    ghost use Rattle.cell_table.specs.declared.view.Stage.TheVariants.{Drawn};
+    ghost use Rattle.cell_table.specs.Steps.{IsIdle, Grows, Observes};
+    ghost use Rattle.cell_table.specs.Pass.{IsHeld, IsPassOf, IsSole, note, trail_of, version_drawn};
+    ghost use Rattle.attempt_lists.specs.Cells.{cell_at, word_at, word_of};
     ghost use Rattle.tx_core.specs.declared.stop.TxState.TheVariants.{Running, Stopped};
     ghost use Rattle.tx_core.specs.Causes.{CausedSince, FoundTwice, IsFoundAt, IsOfOne, GrewBy};
     ghost use Rattle.tx_core.specs.Seen.{HoldsOnly};
@@ -51,5 +55,47 @@ impl<'a, M: Meaning> Tx<'a, M> {
                 Err(stop)
             }
         }
+    }
+    /// Ends the attempt with its record in the acting caller's book, at the place that was drawn. Takes no memory.
+    ///
+    /// It stores all written values, the first of which decides the record, and then gives each held cell back: a written one
+    /// at that place, any other one with the version that it had. `lock_writes` and, as the last call, `draw_and_check` have
+    /// answered Ok.
+    pub fn publish(self) -> Pass<M>
+        requires running { self.state ≡ Running }
+        requires checked { (d : ℕ) × (self.pass.view.stage ≡ Drawn d) × ((i : ℕ) → i < length self.observations → Observes self.pass.view (cell_at self.observations i) (word_of self.observations i) (d - 1)) }
+        requires all_held { (c : ℕ) → IsSome (word_at self.writes c) → IsHeld self.pass c }
+        requires some_write { 0 < length self.writes }
+        requires explained { (m : M) → self.pass.view.meaning ≡ Some m → M.explains m self.observations self.writes self.notes }
+        ensures of { IsPassOf self.entry.table result }
+        ensures idle { IsIdle result.view }
+        ensures seen { result.seen ≡ version_drawn self.entry.pass.view.stage }
+        ensures record { result.books ≡ note (version_drawn self.entry.pass.view.stage) true (record { observations = self.entry.observations; writes = self.entry.writes; dones = self.entry.notes }) self.entry.pass.books }
+        ensures pass { (result.room ≡ self.entry.pass.room) × (result.view.draws ≡ self.entry.pass.view.draws) }
+        ensures grows { Grows self.entry.pass.view result.view }
+        ensures steps { GrewBy (length self.entry.writes + length self.entry.pass.view.held) (trail_of self.entry.pass) (trail_of result) }
+    {
+        let Tx {
+            table,
+            mut pass,
+            version: _,
+            reads,
+            writes,
+            held,
+            notes,
+            additions: _,
+            spare: _,
+            state: _,
+            committing: _,
+        } = self;
+        store_all(
+            table,
+            &mut pass,
+            reads.into_observations(),
+            writes.into_parent(),
+            notes,
+        );
+        give_back_all(table, &mut pass, held);
+        pass
     }
 }

@@ -71,8 +71,10 @@ pub(crate) fn give_back_all<M: Meaning>(
     ensures of { IsPassOf table.now pass.new }
     ensures idle { IsIdle pass.new.view }
     ensures gives { GivesBack pass.old pass.new }
-    ensures steps { GrewBy (length held.entries) (trail_of pass.old) (trail_of pass.new) }
+    ensures steps { GrewBy (length pass.old.view.held) (trail_of pass.old) (trail_of pass.new) }
 {
+    // No cell is listed twice.
+    let _ = held.as_slice();
     while let Some((cell, _)) = held.pop() {
         table.give_back(pass, cell);
     }
