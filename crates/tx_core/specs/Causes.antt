@@ -1,8 +1,9 @@
 -- Why an attempt is stopped, by the steps in the trail.
-use Rattle.std.specs.Prelude.{◌≡◌, ℕ, ◌+◌, ◌*◌, ◌<◌, ◌≤◌, false, ◌⊎◌, List, ◌++◌, length, slice_get, Some}
+use Rattle.std.specs.Prelude.{◌≡◌, ℕ, ◌+◌, ◌*◌, ◌<◌, ◌≤◌, false, ◌⊎◌, List, ◌++◌, length, slice_get, Some, IsSome}
 use Rattle.cell_table.specs.Cells.{has}
 use Rattle.cell_table.specs.declared.view.Event.{Event}
 use Rattle.cell_table.specs.declared.view.Event.TheVariants.{LockLoaded, LockExchanged}
+use Rattle.attempt_lists.specs.Cells.{Entries, word_at}
 use Rattle.tx_core.specs.declared.stop.Stop.{Stop}
 use Rattle.tx_core.specs.declared.stop.Stop.TheVariants.{Held, Newer, Memory}
 use Rattle.tx_core.specs.declared.stop.TxState.{TxState}
@@ -34,6 +35,10 @@ IsFoundAt cell Memory = ⊥
 -- the stop was found at this cell, and has its cause from place n of the trail on
 abbrev pub IsCausedAt : ℕ → List ℕ → ℕ → ℕ → List Event → Stop → Type 0
 IsCausedAt cell callers version n trail stop = CausedSince callers version n trail stop × IsFoundAt cell stop
+
+-- the stop was found at a cell of the list
+abbrev pub IsOfOne : Entries → Stop → Type 0
+IsOfOne entries stop = (c : ℕ) × IsSome (word_at entries c) × IsFoundAt c stop
 
 -- it is not want of memory
 abbrev pub IsFound : Stop → Type 0

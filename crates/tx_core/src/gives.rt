@@ -4,7 +4,7 @@ ghost use Rattle.std.specs.Map.{keys_of};
 ghost use Rattle.cell_table.specs.Cells.{has};
 ghost use Rattle.cell_table.specs.Rule.{cells_of};
 ghost use Rattle.cell_table.specs.declared.view.Stage.TheVariants.{Open};
-ghost use Rattle.cell_table.specs.Steps.{IsUndecided, IsIdle};
+ghost use Rattle.cell_table.specs.Steps.{IsStoredOrUndecided, IsIdle};
 ghost use Rattle.cell_table.specs.Pass.{IsPassOf, trail_of};
 ghost use Rattle.attempt_lists.specs.Cells.{word_at};
 ghost use Rattle.tx_core.specs.Causes.{GrewBy};
@@ -57,7 +57,7 @@ pub(crate) fn reserve_more_locks<M: Meaning>(
     held.reserve(more as usize)
 }
 
-/// Gives all held cells back, the last one first, while nothing is decided. Their versions are those that they had.
+/// Gives all held cells back, the last one first, while nothing is decided or once all values are stored.
 pub(crate) fn give_back_all<M: Meaning>(
     table: &CellTable<M>,
     pass: &mut Pass<M>,
@@ -66,13 +66,15 @@ pub(crate) fn give_back_all<M: Meaning>(
     requires of { IsPassOf table.now pass.old }
     requires holds { (c : ℕ) → has c (cells_of pass.old.view.held) ≡ is_some (word_at held.entries c) }
     requires in_table { All (λ c. c < length table.now.opening) (keys_of held.entries) }
-    requires undecided { IsUndecided pass.old.view.stage }
+    requires stored { IsStoredOrUndecided pass.old.view.stage }
     requires undrawn { pass.old.view.held ≡ [] → pass.old.view.stage ≡ Open }
     ensures of { IsPassOf table.now pass.new }
     ensures idle { IsIdle pass.new.view }
     ensures gives { GivesBack pass.old pass.new }
-    ensures steps { GrewBy (length held.entries) (trail_of pass.old) (trail_of pass.new) }
+    ensures steps { GrewBy (length pass.old.view.held) (trail_of pass.old) (trail_of pass.new) }
 {
+    // No cell is listed twice.
+    let _ = held.as_slice();
     while let Some((cell, _)) = held.pop() {
         table.give_back(pass, cell);
     }

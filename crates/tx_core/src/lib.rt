@@ -4,6 +4,7 @@
 
 mod additions;
 mod check;
+mod commit;
 mod gives;
 mod hold;
 mod late;
@@ -11,6 +12,7 @@ mod locks;
 mod peek;
 mod spare;
 mod steps;
+mod stores;
 mod stop;
 mod tx;
 mod untold;

@@ -5,8 +5,8 @@ ghost use Rattle.cell_table.specs.Rule.{cells_of, callers_of};
 ghost use Rattle.cell_table.specs.declared.view.Stage.TheVariants.{Open};
 ghost use Rattle.cell_table.specs.Pass.{IsPassOf, IsSole, IsHeld, trail_of};
 ghost use Rattle.attempt_lists.specs.Cells.{word_at, cell_at, word_of};
-ghost use Rattle.tx_core.specs.Causes.{IsCausedAt, FoundTwice, GrewBy};
-ghost use Rattle.tx_core.specs.Seen.{LooksOnly, StandsAt, Takes, HoldsOnly, SameOthers};
+ghost use Rattle.tx_core.specs.Causes.{IsCausedAt, CausedSince, IsFoundAt, IsOfOne, FoundTwice, GrewBy};
+ghost use Rattle.tx_core.specs.Seen.{LooksOnly, IsSeen, Takes, HoldsOnly, SameOthers};
 ghost use Rattle.tx_core.specs.Tx.{IsAttempt};
 
 use crate::steps::{stop_at, take_from};
@@ -33,6 +33,7 @@ pub(crate) fn lock_newest<M: Meaning>(
     ensures steps { GrewBy 2 (trail_of pass.old) (trail_of pass.new) }
     ensures cause { IfErr result (IsCausedAt cell (callers_of pass.old.view.books) version (length (trail_of pass.old)) (trail_of pass.new)) }
     ensures twice { IfErr result (FoundTwice (length (trail_of pass.old)) (trail_of pass.new)) }
+    ensures sole { IsSole pass.old → IsOk result }
 {
     let word = table.look_lock(pass, cell);
     let Some(found) = free_version(word) else {
@@ -66,6 +67,7 @@ pub(crate) fn lock_late<M: Meaning>(
     ensures steps { GrewBy 2 (trail_of pass.old) (trail_of pass.new) }
     ensures cause { IfErr result (IsCausedAt cell (callers_of pass.old.view.books) version (length (trail_of pass.old)) (trail_of pass.new)) }
     ensures twice { word_at reads.now.observations cell ≡ None → IfErr result (FoundTwice (length (trail_of pass.old)) (trail_of pass.new)) }
+    ensures sole { IsSole pass.old → pass.old.seen ≤ version → IsOk result }
 {
     // No cell was observed twice.
     let _ = reads.as_slice();
@@ -94,16 +96,19 @@ fn lock_at<M: Meaning>(
     requires attempt { IsAttempt table.now pass.old version reads.now writes.now held.old true }
     requires undrawn { pass.old.view.stage ≡ Open }
     requires index { index < length writes.now.parent }
+    requires locks { held.old.reserved ≤ pass.old.places }
     requires room { 0 < held.old.reserved }
     ensures attempt { IsAttempt table.now pass.new version reads.now writes.now held.new true }
     ensures held { OnOk result (IsHeld pass.new (cell_at writes.now.parent index)) }
     ensures pass { HoldsOnly pass.old pass.new }
     ensures others { SameOthers pass.old pass.new (cell_at writes.now.parent index) }
     ensures kept { (c : ℕ) → IsHeld pass.old c → IsHeld pass.new c }
+    ensures locks { held.new.reserved ≤ pass.new.places }
     ensures room { held.old.reserved ≤ held.new.reserved + 1 }
     ensures steps { GrewBy 2 (trail_of pass.old) (trail_of pass.new) }
     ensures cause { IfErr result (IsCausedAt (cell_at writes.now.parent index) (callers_of pass.old.view.books) version (length (trail_of pass.old)) (trail_of pass.new)) }
     ensures twice { word_at reads.now.observations (cell_at writes.now.parent index) ≡ None → IfErr result (FoundTwice (length (trail_of pass.old)) (trail_of pass.new)) }
+    ensures sole { IsSole pass.old → IsOk result }
 {
     let (cell, _) = writes.parent()[index];
     if held.get(cell).is_some() {
@@ -116,4 +121,37 @@ fn lock_at<M: Meaning>(
         }
         Err(stop) => Err(stop),
     }
+}
+
+/// Takes the locks of the written cells that aren't held, in ascending order, at the places that are reserved.
+pub(crate) fn lock_all<M: Meaning>(
+    table: &CellTable<M>,
+    pass: &mut Pass<M>,
+    reads: &ReadSet,
+    writes: &WriteSet,
+    held: &mut CellList,
+    version: u64,
+) -> Result<(), Stop>
+    requires attempt { IsAttempt table.now pass.old version reads.now writes.now held.old true }
+    requires undrawn { pass.old.view.stage ≡ Open }
+    requires locks { held.old.reserved ≤ pass.old.places }
+    requires room { length writes.now.parent ≤ held.old.reserved }
+    ensures attempt { IsAttempt table.now pass.new version reads.now writes.now held.new true }
+    ensures all_held { OnOk result ((c : ℕ) → IsSome (word_at writes.now.parent c) → IsHeld pass.new c) }
+    ensures pass { HoldsOnly pass.old pass.new }
+    ensures others { (c : ℕ) → word_at writes.now.parent c ≡ None → has c (cells_of pass.new.view.held) ≡ has c (cells_of pass.old.view.held) }
+    ensures kept { (c : ℕ) → IsHeld pass.old c → IsHeld pass.new c }
+    ensures locks { held.new.reserved ≤ pass.new.places }
+    ensures room { held.old.reserved ≤ held.new.reserved + length writes.now.parent }
+    ensures steps { GrewBy (2 * length writes.now.parent) (trail_of pass.old) (trail_of pass.new) }
+    ensures cause { IfErr result (λ stop. IsOfOne writes.now.parent stop × CausedSince (callers_of pass.old.view.books) version (length (trail_of pass.old)) (trail_of pass.new) stop) }
+    ensures twice { IfErr result (λ stop. (c : ℕ) → IsFoundAt c stop → word_at reads.now.observations c ≡ None → FoundTwice (length (trail_of pass.old)) (trail_of pass.new) stop) }
+    ensures sole { IsSole pass.old → IsOk result }
+{
+    for index in 0..writes.parent().len() {
+        if let Err(stop) = lock_at(table, pass, reads, writes, held, index, version) {
+            return Err(stop);
+        }
+    }
+    Ok(())
 }

@@ -86,7 +86,10 @@ pub(crate) fn take_from<M: Meaning>(
     ensures looks { OnErr result (LooksOnly pass.old pass.new) }
     ensures steps { GrewBy 1 (trail_of pass.old) (trail_of pass.new) }
     ensures cause { IfErr result (IsCausedAt cell (callers_of pass.old.view.books) version (length (trail_of pass.old)) (trail_of pass.new)) }
+    ensures sole { IsSole pass.old → pass.old.seen ≤ version → IsOk result }
 {
+    // A pass with every caller number knows the newest version.
+    pass.alone();
     match table.take_lock(pass, cell, 2 * from) {
         Ok(()) => Ok(()),
         Err(word) => {
@@ -116,6 +119,7 @@ pub(crate) fn lock_cell<M: Meaning>(
     ensures looks { OnErr result (LooksOnly pass.old pass.new) }
     ensures steps { GrewBy 2 (trail_of pass.old) (trail_of pass.new) }
     ensures cause { IfErr result (IsCausedAt cell (callers_of pass.old.view.books) version (length (trail_of pass.old)) (trail_of pass.new)) }
+    ensures sole { IsSole pass.old → pass.old.seen ≤ version → IsOk result }
 {
     let word = table.look_lock(pass, cell);
     let Some(found) = free_version(word) else {
@@ -152,6 +156,7 @@ pub(crate) fn lock_seen<M: Meaning>(
     ensures looks { OnErr result (LooksOnly pass.old pass.new) }
     ensures steps { GrewBy 2 (trail_of pass.old) (trail_of pass.new) }
     ensures cause { IfErr result (IsCausedAt cell (callers_of pass.old.view.books) version (length (trail_of pass.old)) (trail_of pass.new)) }
+    ensures sole { IsSole pass.old → pass.old.seen ≤ version → IsOk result }
 {
     // No cell was observed twice.
     let _ = reads.as_slice();

@@ -267,6 +267,7 @@ impl<'a, M: Meaning> Tx<'a, M> {
         ensures idle { IsIdle result.view }
         ensures seen { result.seen ≡ self.entry.version }
         ensures books { result.books ≡ self.entry.pass.books }
+        ensures steps { GrewBy (length self.entry.pass.view.held) (trail_of self.entry.pass) (trail_of result) }
         ensures pass { (result.room ≡ self.entry.pass.room) × (result.view.draws ≡ self.entry.pass.view.draws) }
         ensures vouched { (i : ℕ) → i < length self.entry.observations → slice_index self.entry.versions i ≤ self.entry.version → Observes result.view (cell_at self.entry.observations i) (word_of self.entry.observations i) self.entry.version }
         ensures grows { Grows self.entry.pass.view result.view }
@@ -301,6 +302,7 @@ impl<'a, M: Meaning> Tx<'a, M> {
         ensures idle { IsIdle result.view }
         ensures seen { result.seen ≡ self.entry.version }
         ensures record { result.books ≡ note self.entry.version false (record { observations = self.entry.observations; writes = []; dones = self.entry.notes }) self.entry.pass.books }
+        ensures steps { GrewBy (length self.entry.pass.view.held) (trail_of self.entry.pass) (trail_of result) }
         ensures pass { (result.room ≡ self.entry.pass.room) × (result.view.draws ≡ self.entry.pass.view.draws) }
         ensures grows { Grows self.entry.pass.view result.view }
     {
