@@ -117,3 +117,28 @@ module _ {M D : Type 0} where
     where
       true_false : true ≡ false → ⊥
       true_false e = cc
+
+module _ {M D : Type 0} where
+  -- a lock of the commit takes a place that was kept
+  pub provided_locks : (p q : PassState M D) (reads : Observed) (writes : Levels) (held now : Listed) (additions : List Waiting) (spare : Spare) → IsProvided p reads writes held additions spare true → q.places + 1 ≡ p.places → now.reserved + 1 ≡ held.reserved → 0 < spare.locks → IsProvided q reads writes now additions (record spare { locks = spare.locks - 1 }) true
+  provided_locks p q reads writes held now additions spare a places used some = record {
+    locks = omega (arith, a.locks, places, used);
+    spare_locks = omega (arith, a.spare_locks, used, some);
+    spare_observations = a.spare_observations;
+    spare_writes = a.spare_writes;
+    few = (omega (arith, a.few.0), a.few.1, a.few.2);
+    room = λ early. cc;
+    twice = λ early. cc;
+  }
+
+  -- and so does an observation
+  pub provided_observes : (p : PassState M D) (reads more : Observed) (writes : Levels) (held : Listed) (additions : List Waiting) (spare : Spare) → IsProvided p reads writes held additions spare true → more.reserved + 1 ≡ reads.reserved → 0 < spare.observations → IsProvided p more writes held additions (record spare { observations = spare.observations - 1 }) true
+  provided_observes p reads more writes held additions spare a used some = record {
+    locks = a.locks;
+    spare_locks = a.spare_locks;
+    spare_observations = omega (arith, a.spare_observations, used, some);
+    spare_writes = a.spare_writes;
+    few = (a.few.0, omega (arith, a.few.1), a.few.2);
+    room = λ early. cc;
+    twice = λ early. cc;
+  }
