@@ -40,6 +40,8 @@ fn a_look_at_a_held_cell_leaves_the_attempt_running(rt: HostRuntime) -> Result<(
     };
     assert_eq!(rt; stop, held);
     assert_eq!(rt; first.state(), TxState::Running);
+    first.stop_with(stop);
+    assert_eq!(rt; first.state(), TxState::Stopped);
     let _ = first.abort();
     let _ = second.abort();
     Ok(())
