@@ -42,10 +42,11 @@ module _ {M D : Type 0} where
     pub stands : u ≤ version → StandsAt v version cell x u
     pub held : version < u → has cell (cells_of v.held) ≡ true
 
-  -- The stop was found at an observation, and each one before it is still the newest up to the place that the view knows, but for those of held cells
+  -- The stop was found at an observation of a cell that isn't held, and each such one before it is still the newest up to the place that the view knows
   pub record IsFirstChanged (v : View M D) (observations : Entries) (versions : List ℕ) (stop : Stop) : Type 0 where
     pub place : ℕ
     pub in_range : place < length observations
+    pub free : has (cell_at observations place) (cells_of v.held) ≡ false
     pub found : IsFoundAt (cell_at observations place) stop
     pub before : (j : ℕ) → j < place → has (cell_at observations j) (cells_of v.held) ≡ false → Validated v (cell_at observations j) (slice_index versions j) v.known
 

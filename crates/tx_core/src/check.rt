@@ -1,5 +1,5 @@
 //! Validation: whether what was observed is still so.
-ghost use Rattle.std.specs.Prelude.{◌≡◌, ℕ, ◌+◌, ◌<◌, ◌≤◌, true, false, length, slice_index, is_some, IsOk, IfErr, OnOk};
+ghost use Rattle.std.specs.Prelude.{◌≡◌, ℕ, ◌+◌, ◌<◌, ◌≤◌, true, false, length, slice_index, is_some, IsOk, IfErr, OnOk, OnErr};
 ghost use Rattle.cell_table.specs.Cells.{has};
 ghost use Rattle.cell_table.specs.Rule.{cells_of, callers_of};
 ghost use Rattle.cell_table.specs.Steps.{Validated};
@@ -30,6 +30,7 @@ fn check_one<M: Meaning>(
     ensures ok { OnOk result (has seen.cell (cells_of pass.old.view.held) ≡ false → Validated pass.new.view seen.cell seen.version pass.old.view.known) }
     ensures sole { IsSole pass.old → pass.old.seen ≤ version → IsOk result }
     ensures steps { GrewBy 1 (trail_of pass.old) (trail_of pass.new) }
+    ensures free { OnErr result (has seen.cell (cells_of pass.old.view.held) ≡ false) }
     ensures cause { IfErr result (IsCausedAt seen.cell (callers_of pass.old.view.books) version (length (trail_of pass.old)) (trail_of pass.new)) }
 {
     if held.get(seen.cell).is_some() {

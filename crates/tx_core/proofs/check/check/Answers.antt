@@ -30,6 +30,7 @@ returns-in-Err-clause-first g c =
     record {
       place = c.loop-i.i;
       in_range = c.at.ensures.in_range;
+      free = rw (c.at.ensures.cell, looks.held) c.in-Err.ensures.free;
       found = rw c.at.ensures.cell c.in-Err.ensures.cause.1;
       before = λ j lt free. rw (looks.known, old.known) (looks.grows.validations _ (c.loop-i.invariant.checked j lt (rw (← old.held, ← looks.held) free)));
     }
