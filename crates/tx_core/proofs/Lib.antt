@@ -9,3 +9,4 @@ pub mod Checking
 pub mod LateLocks
 pub mod Storing
 pub mod Providing
+pub mod Parts

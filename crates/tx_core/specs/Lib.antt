@@ -3,3 +3,4 @@ pub mod Causes
 pub mod Seen
 pub mod Stored
 pub mod Tx
+pub mod Parts
