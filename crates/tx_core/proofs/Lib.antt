@@ -8,4 +8,5 @@ pub mod Locking
 pub mod Checking
 pub mod LateLocks
 pub mod Storing
+pub mod Increments
 pub mod Providing
