@@ -2,6 +2,8 @@
 //! commit stands at one place.
 #![tactic(auto)]
 
+#[cfg(test)]
+mod addition_tests;
 mod additions;
 mod check;
 mod commit;

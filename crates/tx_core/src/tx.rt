@@ -53,7 +53,7 @@ impl<'a, M: Meaning> Tx<'a, M> {
     ghost use Rattle.tx_core.specs.declared.stop.Stop.TheVariants.{Held, Newer, Memory};
     ghost use Rattle.tx_core.specs.declared.stop.TxState.TheVariants.{Running, Child, ChildStopped, Stopped};
     ghost use Rattle.tx_core.specs.Causes.{CausedSince, IsOfCell, IsFound, GrewBy};
-    ghost use Rattle.tx_core.specs.Seen.{LooksOnly, StandsAt, HoldsOnly, SameOthers};
+    ghost use Rattle.tx_core.specs.Seen.{LooksOnly, StandsAt, HoldsOnly, IsFirstChanged, SameOthers};
     ghost use Rattle.tx_core.specs.Tx.{Observed};
 
     /// Begins an attempt. Its version is the word of one load of the clock, the only step of the call, after the room for its record is reserved.
@@ -241,6 +241,7 @@ impl<'a, M: Meaning> Tx<'a, M> {
         ensures same { OnOk result (self.new ≡ record self.old { pass = self.new.pass; committing = true }) }
         ensures stopped { IfErr result (λ stop. IsFound stop × (self.new ≡ record self.old { pass = self.new.pass; state = Stopped; committing = true })) }
         ensures cause { IfErr result (CausedSince (callers_of self.old.pass.view.books) self.old.version (length (trail_of self.old.pass)) (trail_of self.new.pass)) }
+        ensures first { IfErr result (IsFirstChanged self.new.pass.view self.old.observations self.old.versions) }
         ensures sole { IsSole self.old.pass → IsOk result }
         ensures draws { self.new.pass.view.draws ≡ self.old.pass.view.draws - 1 }
         ensures held { self.new.pass.view.held ≡ self.old.pass.view.held }
