@@ -8,5 +8,6 @@ pub mod Locking
 pub mod Checking
 pub mod LateLocks
 pub mod Storing
+pub mod Increments
 pub mod Providing
 pub mod Parts

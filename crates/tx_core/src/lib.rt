@@ -9,6 +9,8 @@ mod check;
 mod commit;
 mod gives;
 mod hold;
+#[cfg(test)]
+mod increment;
 mod late;
 mod locks;
 mod peek;
