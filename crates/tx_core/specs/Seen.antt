@@ -1,11 +1,14 @@
 -- What the steps of an attempt leave in its pass, and what an observation stands on.
-use Rattle.std.specs.Prelude.{◌≡◌, ◌≢◌, ℕ, ◌-◌, ◌*◌, ◌^◌, ◌<◌, ◌≤◌, false, length}
+use Rattle.std.specs.Prelude.{◌≡◌, ◌≢◌, ℕ, ◌-◌, ◌*◌, ◌^◌, ◌<◌, ◌≤◌, true, false, List, length, slice_index}
 use Rattle.cell_table.specs.declared.view.View.{View}
 use Rattle.cell_table.specs.Cells.{has}
 use Rattle.cell_table.specs.Rule.{cells_of}
 use Rattle.cell_table.specs.Sorted.{insert_by}
 use Rattle.cell_table.specs.Steps.{Grows, Reads, Validated, cell_key}
 use Rattle.cell_table.specs.Pass.{PassState, with_view}
+use Rattle.attempt_lists.specs.Cells.{Entries, cell_at}
+use Rattle.tx_core.specs.declared.stop.Stop.{Stop}
+use Rattle.tx_core.specs.Causes.{IsFoundAt}
 
 module _ {M D : Type 0} where
   -- loads of words: the view knows what it knew, and its attempt has come no further
@@ -30,6 +33,22 @@ module _ {M D : Type 0} where
     pub far : version ≤ upto
     pub near : upto ≤ v.known
     pub validated : Validated v cell u upto
+
+  -- The version u of the cell has the value x: it stands at this version of the attempt, or it is newer and the cell is held
+  pub record IsSeen (v : View M D) (version cell x u : ℕ) : Type 0 where
+    pub there : cell < length v.opening
+    pub reads : Reads v cell u x
+    pub small : 2 * u < 2 ^ 64
+    pub stands : u ≤ version → StandsAt v version cell x u
+    pub held : version < u → has cell (cells_of v.held) ≡ true
+
+  -- The stop was found at an observation of a cell that isn't held, and each such one before it is still the newest up to the place that the view knows
+  pub record IsFirstChanged (v : View M D) (observations : Entries) (versions : List ℕ) (stop : Stop) : Type 0 where
+    pub place : ℕ
+    pub in_range : place < length observations
+    pub free : has (cell_at observations place) (cells_of v.held) ≡ false
+    pub found : IsFoundAt (cell_at observations place) stop
+    pub before : (j : ℕ) → j < place → has (cell_at observations j) (cells_of v.held) ≡ false → Validated v (cell_at observations j) (slice_index versions j) v.known
 
   -- cells were given back: the pass knows what it knew, and its books are as before
   pub record GivesBack (p q : PassState M D) : Type 0 where
@@ -59,6 +78,15 @@ module _ {M D : Type 0} where
     pub books : q.view.books ≡ p.view.books
     pub draws : q.view.draws ≡ p.view.draws
     pub known : q.view.known ≡ p.view.known
+    pub stage : q.view.stage ≡ p.view.stage
+
+  -- the view knows more, and its attempt has come no further
+  pub record KnowsMore (p q : PassState M D) : Type 0 where
+    pub is : q ≡ with_view p q.view
+    pub grows : Grows p.view q.view
+    pub books : q.view.books ≡ p.view.books
+    pub draws : q.view.draws ≡ p.view.draws
+    pub held : q.view.held ≡ p.view.held
     pub stage : q.view.stage ≡ p.view.stage
 
   -- no other cell came or went
