@@ -1,4 +1,8 @@
 //! Pools of items in the cells of a table, one slot a cell.
 #![tactic(auto)]
 
-pub mod part;
+mod part;
+mod walk;
+mod wanted;
+
+pub use part::PoolPart;
