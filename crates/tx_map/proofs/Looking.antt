@@ -1,5 +1,5 @@
 -- What a look at a key's cell says of the map.
-use Rattle.std.proofs.Common.{◌≡◌, ℕ, zero, suc, ◌+◌, ◌-◌, ◌<◌, ◌≤◌, List, get_or, Option, Some, None, Result, Ok, add-one, refl, sym, ap, ◌∙◌, arith, inl, inr}
+use Rattle.std.proofs.Common.{◌≡◌, ℕ, zero, suc, ◌+◌, ◌-◌, ◌<◌, ◌≤◌, List, get_or, Option, Some, None, Result, Ok, add-one, refl, sym, subst, ap, ◌∙◌, arith, inl, inr}
 use Rattle.std.proofs.lemmas.Bool.Decides.{nat_tests}
 use mathlib.Core.Path.{fun_ext}
 use Rattle.serial_terms.specs.Counts.{with_at}
@@ -66,3 +66,10 @@ module _ {M D : Type 0} (p q r : PassState M D) where
       let view : r.view ≡ q.view = ap (λ (s : PassState M D). s.view) same in
       let narrow : PassState M D → PassState M D = λ s. record s { places = p.places } in
       (ap narrow same ∙ ap narrow looks.0 ∙ ap (λ (v : View M D). record p { view = v }) (sym view), rw view looks.1)
+
+-- what an attempt that may have observed a cell has as before
+pub observes_same : {M D : Type 0} → (old new : Attempt M D) (cell : ℕ) → MayObserve old new cell → new ≡ record old { pass = new.pass; observations = new.observations; versions = new.versions }
+observes_same old new cell (inl same) = subst (λ (a : Attempt _ _). a ≡ record old { pass = a.pass; observations = a.observations; versions = a.versions }) (sym same) refl
+observes_same old new cell (inr seen) =
+    let is = seen.3.is in
+    is ∙ (λ i. record old { pass = new.pass; observations = sym (ap (λ (a : Attempt _ _). a.observations) is) i; versions = sym (ap (λ (a : Attempt _ _). a.versions) is) i })

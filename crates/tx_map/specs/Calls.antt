@@ -1,12 +1,13 @@
 -- The calls of a map.
-use Rattle.std.specs.Prelude.{◌≡◌, ℕ, ◌<◌, ◌↔◌, ◌⊎◌, [], ◌∷◌, ◌++◌, length, None, Result, Ok, Err}
+use Rattle.std.specs.Prelude.{◌≡◌, ℕ, ◌<◌, ◌↔◌, ◌⊎◌, false, [], ◌∷◌, ◌++◌, length, None, Result, Ok, Err}
 use Rattle.key_directory.specs.Words.{capacity_of, OnlyBelow}
 use Rattle.key_directory.specs.Directory.{DirectoryView, PassView, Claimed, claim_of, steps_since, AreAllOthers}
 use Rattle.attempt_lists.specs.Cells.{word_at, put}
 use Rattle.tx_core.specs.declared.stop.Stop.{Stop as AttemptStop}
-use Rattle.tx_core.specs.declared.stop.TxState.TheVariants.{Stopped}
+use Rattle.tx_core.specs.declared.stop.TxState.TheVariants.{Running, Stopped}
 use Rattle.tx_core.specs.Tx.{Attempt, Observed}
 use Rattle.tx_map.specs.declared.part.MapPart.{MapPart}
+use Rattle.tx_map.specs.Map.{IsFormed}
 use Rattle.tx_map.specs.declared.part.MapStop.{MapStop}
 use Rattle.tx_map.specs.declared.part.MapStop.TheVariants.{Stop, KeysFull}
 
@@ -73,3 +74,12 @@ module _ {M D : Type 0} where
   -- it may have observed the cell, and then was stopped
   abbrev pub StopsAfterLook : Attempt M D → Attempt M D → ℕ → Type 0
   StopsAfterLook old new cell = (looked : Attempt M D) × MayObserve old looked cell × (new ≡ record looked { pass = new.pass; state = Stopped })
+
+-- What each call of the map asks of the attempt, the directory and its pass
+pub record MayCall {M D : Type 0} (part : MapPart) (tx : Attempt M D) (directory : DirectoryView) (keys : PassView) : Type 0 where
+  pub running : tx.state ≡ Running
+  pub before_commit : tx.committing ≡ false
+  -- the part's cells are cells of the table
+  pub cells : IsFormed part tx.table.opening
+  pub region : IsRegionOf part directory
+  pub pass : keys.directory ≡ directory

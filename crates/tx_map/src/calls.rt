@@ -13,7 +13,7 @@ ghost use Rattle.tx_core.specs.Seen.{LooksOnly};
 ghost use Rattle.tx_core.specs.Tx.{Observed};
 ghost use Rattle.tx_core.specs.Parts.{Explains};
 ghost use Rattle.tx_map.specs.Map.{IsFormed, map_of, value_in};
-ghost use Rattle.tx_map.specs.Calls.{IsRegionOf, AtKey, ClaimsKey, IfStopped, IfFull, MayObserve, PutsAfterLook, StopsAfterLook};
+ghost use Rattle.tx_map.specs.Calls.{IsRegionOf, MayCall, AtKey, ClaimsKey, IfStopped, IfFull, MayObserve, PutsAfterLook, StopsAfterLook};
 
 use crate::part::{MapPart, MapStop};
 use cell_table::Meaning;
@@ -32,11 +32,7 @@ impl MapPart {
         keys: &mut KeyPass<K>,
         key: u64,
     ) -> Result<Option<u64>, MapStop>
-        requires running { tx.old.state ≡ Running }
-        requires before_commit { tx.old.committing ≡ false }
-        requires directory { keys.old.directory ≡ directory.now }
-        requires region { IsRegionOf self.now directory.now }
-        requires cells { IsFormed self.now tx.old.table.opening }
+        requires callable { MayCall self.now tx.old directory.now keys.old }
         requires key { key < 2 ^ 64 - 1 }
         requires passes { K.passes self.now.capacity key }
         ensures keys { ClaimsKey self.now K.passes key keys.old keys.new result }
@@ -45,6 +41,7 @@ impl MapPart {
         ensures explains { IfOk result (λ found. AtKey self.now keys.new key (λ position. Explains (IsFormed self.now) tx.old tx.new (λ before after. (found ≡ map_of self.now before position) × (after ≡ before)))) }
 
         // It touches the key's cell alone.
+        ensures same { OnOk result (tx.new ≡ record tx.old { pass = tx.new.pass; observations = tx.new.observations; versions = tx.new.versions }) }
         ensures ok { OnOk result (AtKey self.now keys.new key (λ position. MayObserve tx.old tx.new (self.now.base + position))) }
         ensures full { IfFull result (λ capacity. tx.new ≡ tx.old) }
         ensures stopped { IfStopped result (λ stop. tx.new ≡ record tx.old { pass = tx.new.pass; state = Stopped }) }
@@ -70,11 +67,7 @@ impl MapPart {
         key: u64,
         value: u64,
     ) -> Result<(), MapStop>
-        requires running { tx.old.state ≡ Running }
-        requires before_commit { tx.old.committing ≡ false }
-        requires directory { keys.old.directory ≡ directory.now }
-        requires region { IsRegionOf self.now directory.now }
-        requires cells { IsFormed self.now tx.old.table.opening }
+        requires callable { MayCall self.now tx.old directory.now keys.old }
         requires key { key < 2 ^ 64 - 1 }
         requires passes { K.passes self.now.capacity key }
         requires value { value < 2 ^ 64 - 1 }
@@ -84,6 +77,7 @@ impl MapPart {
         ensures explains { OnOk result (AtKey self.now keys.new key (λ position. Explains (IsFormed self.now) tx.old tx.new (λ before after. IsFormed self.now after × (map_of self.now after ≡ with_at (map_of self.now before) position (Some value))))) }
 
         // It touches the key's cell alone.
+        ensures same { OnOk result (tx.new ≡ record tx.old { pass = tx.new.pass; writes = tx.new.writes }) }
         ensures ok { OnOk result (AtKey self.now keys.new key (λ position. tx.new ≡ record tx.old { pass = tx.new.pass; writes = put tx.old.writes (self.now.base + position) (value + 1) })) }
         ensures full { IfFull result (λ capacity. tx.new ≡ tx.old) }
         ensures stopped { IfStopped result (λ stop. (stop ≡ Memory) × (tx.new ≡ record tx.old { pass = tx.new.pass; state = Stopped })) }
@@ -105,11 +99,7 @@ impl MapPart {
         keys: &mut KeyPass<K>,
         key: u64,
     ) -> Result<(), MapStop>
-        requires running { tx.old.state ≡ Running }
-        requires before_commit { tx.old.committing ≡ false }
-        requires directory { keys.old.directory ≡ directory.now }
-        requires region { IsRegionOf self.now directory.now }
-        requires cells { IsFormed self.now tx.old.table.opening }
+        requires callable { MayCall self.now tx.old directory.now keys.old }
         requires key { key < 2 ^ 64 - 1 }
         requires passes { K.passes self.now.capacity key }
         ensures keys { ClaimsKey self.now K.passes key keys.old keys.new result }
@@ -118,6 +108,7 @@ impl MapPart {
         ensures explains { OnOk result (AtKey self.now keys.new key (λ position. Explains (IsFormed self.now) tx.old tx.new (λ before after. IsFormed self.now after × (map_of self.now after ≡ with_at (map_of self.now before) position None)))) }
 
         // It touches the key's cell alone.
+        ensures same { OnOk result (tx.new ≡ record tx.old { pass = tx.new.pass; writes = tx.new.writes }) }
         ensures ok { OnOk result (AtKey self.now keys.new key (λ position. tx.new ≡ record tx.old { pass = tx.new.pass; writes = put tx.old.writes (self.now.base + position) 0 })) }
         ensures full { IfFull result (λ capacity. tx.new ≡ tx.old) }
         ensures stopped { IfStopped result (λ stop. (stop ≡ Memory) × (tx.new ≡ record tx.old { pass = tx.new.pass; state = Stopped })) }
@@ -141,11 +132,7 @@ impl MapPart {
         key: u64,
         value: u64,
     ) -> Result<Option<u64>, MapStop>
-        requires running { tx.old.state ≡ Running }
-        requires before_commit { tx.old.committing ≡ false }
-        requires directory { keys.old.directory ≡ directory.now }
-        requires region { IsRegionOf self.now directory.now }
-        requires cells { IsFormed self.now tx.old.table.opening }
+        requires callable { MayCall self.now tx.old directory.now keys.old }
         requires key { key < 2 ^ 64 - 1 }
         requires passes { K.passes self.now.capacity key }
         requires value { value < 2 ^ 64 - 1 }
@@ -155,6 +142,7 @@ impl MapPart {
         ensures explains { IfOk result (λ there. AtKey self.now keys.new key (λ position. Explains (IsFormed self.now) tx.old tx.new (λ before after. (there ≡ map_of self.now before position) × IsFormed self.now after × (map_of self.now after ≡ with_at (map_of self.now before) position (option_or there (Some value)))))) }
 
         // It touches the key's cell alone, and writes it only where the key was absent.
+        ensures same { OnOk result (tx.new ≡ record tx.old { pass = tx.new.pass; observations = tx.new.observations; versions = tx.new.versions; writes = tx.new.writes }) }
         ensures there { IfOk result (λ there. IsSome there → AtKey self.now keys.new key (λ position. MayObserve tx.old tx.new (self.now.base + position))) }
         ensures absent { IfOk result (λ there. IsNone there → AtKey self.now keys.new key (λ position. PutsAfterLook tx.old tx.new (self.now.base + position) (value + 1))) }
         ensures full { IfFull result (λ capacity. tx.new ≡ tx.old) }
@@ -182,6 +170,7 @@ impl MapPart {
         requires cell { cell < self.now.base + self.now.capacity }
         requires value { value < 2 ^ 64 - 1 }
         ensures explains { IfOk result (λ there. Explains (IsFormed self.now) tx.old tx.new (λ before after. IsFormed self.now after × ((position : ℕ) → cell ≡ self.now.base + position → (there ≡ map_of self.now before position) × (map_of self.now after ≡ with_at (map_of self.now before) position (option_or there (Some value)))))) }
+        ensures same { OnOk result (tx.new ≡ record tx.old { pass = tx.new.pass; observations = tx.new.observations; versions = tx.new.versions; writes = tx.new.writes }) }
         ensures there { IfOk result (λ there. IsSome there → MayObserve tx.old tx.new cell) }
         ensures absent { IfOk result (λ there. IsNone there → PutsAfterLook tx.old tx.new cell (value + 1)) }
         ensures never_full { IfFull result (λ capacity. ⊥) }
@@ -211,6 +200,7 @@ impl MapPart {
         requires cell { cell < self.now.base + self.now.capacity }
         ensures explains { IfOk result (λ found. Explains (IsFormed self.now) tx.old tx.new (λ before after. (after ≡ before) × ((position : ℕ) → cell ≡ self.now.base + position → found ≡ map_of self.now before position))) }
         ensures ok { OnOk result (MayObserve tx.old tx.new cell) }
+        ensures same { OnOk result (tx.new ≡ record tx.old { pass = tx.new.pass; observations = tx.new.observations; versions = tx.new.versions }) }
         ensures never_full { IfFull result (λ capacity. ⊥) }
         ensures stopped { IfStopped result (λ stop. IsOfCell cell stop × (tx.new ≡ record tx.old { pass = tx.new.pass; state = Stopped })) }
         ensures looks { LooksOnly tx.old.pass tx.new.pass }

@@ -7,5 +7,7 @@
 mod calls;
 mod laws;
 mod part;
+#[cfg(test)]
+mod tests;
 
 pub use part::{MapPart, MapStop};

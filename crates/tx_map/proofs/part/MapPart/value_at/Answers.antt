@@ -1,7 +1,7 @@
 use Rattle.std.proofs.Common.{◌≡◌, ◌<◌, length, ◌∙◌, sym, ap, arith}
 use Rattle.cell_table.specs.Cells.{after}
 use Rattle.tx_map.specs.Calls.{MayObserve}
-use Rattle.tx_map.proofs.Looking.{read_observes, observes_writes, map_has, value_is}
+use Rattle.tx_map.proofs.Looking.{read_observes, observes_writes, observes_same, map_has, value_is}
 use Rattle.tx_map.proofs.part.MapPart.value_at.Goals as goal
 
 pub returns-in-Ok-clause-explains : goal.returns-in-Ok-clause-explains
@@ -18,3 +18,6 @@ returns-in-Ok-clause-explains g c cells all formed =
 
 pub returns-in-Ok-clause-ok : goal.returns-in-Ok-clause-ok
 returns-in-Ok-clause-ok g c = let e = c.in-Ok.ensures in read_observes _ _ _ c.in-Ok.word e.own e.seen_before e.observes
+
+pub returns-in-Ok-clause-same : goal.returns-in-Ok-clause-same
+returns-in-Ok-clause-same g c = let e = c.in-Ok.ensures in observes_same _ _ c.args.cell (read_observes _ _ _ c.in-Ok.word e.own e.seen_before e.observes)
