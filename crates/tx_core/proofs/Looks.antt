@@ -14,7 +14,8 @@ use Rattle.cell_table.specs.Pass.{PassState, with_view}
 use Rattle.cell_table.specs.Cells.{has}
 use Rattle.cell_table.specs.Rule.{cells_of}
 use Rattle.cell_table.specs.Steps.{taken, drawn, validate_all}
-use Rattle.tx_core.specs.Seen.{IsLooked, LooksOnly, StandsAt, Takes}
+use Rattle.tx_core.specs.Seen.{IsLooked, LooksOnly, StandsAt, IsSeen, Takes}
+use Rattle.std.proofs.lemmas.Bool.{cases_lt}
 
 -- a list of triples keeps what it has
 abbrev pub HasAll : Triples → Triples → Type 0
@@ -140,6 +141,36 @@ module _ {M D : Type 0} where
   -- what stands is observed
   pub observes_of : (v : View M D) (version c x u : ℕ) → StandsAt v version c x u → Observes v c x version
   observes_of v version c x u s = (u, s.upto, s.reads, s.validated, s.low, s.far)
+
+module _ {M D : Type 0} where
+  -- what stands is seen, also where more cells are held later
+  pub seen_stands : (v : View M D) (version c x u : ℕ) → StandsAt v version c x u → IsSeen v version c x u
+  seen_stands v version c x u s = record {
+    there = s.there;
+    reads = s.reads;
+    small = s.small;
+    stands = λ low. s;
+    held = λ above. absurd (omega (arith, s.low));
+  }
+
+  pub seen_grows : (v w : View M D) (version c x u : ℕ) → Grows v w → (has c (cells_of v.held) ≡ true → has c (cells_of w.held) ≡ true) → IsSeen v version c x u → IsSeen w version c x u
+  seen_grows v w version c x u g keeps s = record {
+    there = rw g.opening s.there;
+    reads = g.values _ s.reads;
+    small = s.small;
+    stands = λ low. stands_grows v w version c x u g (s.stands low);
+    held = λ above. keeps (s.held above);
+  }
+
+  -- what was seen of a cell that isn't held stands
+  pub stands_unheld : (v : View M D) (version c x u : ℕ) → IsSeen v version c x u → has c (cells_of v.held) ≡ false → StandsAt v version c x u
+  stands_unheld v version c x u s free = elim (cases_lt version u) [
+    | inl above ↦ true_and_false (s.held above) free
+    | inr low ↦ s.stands low
+  ]
+    where
+      true_and_false : {b : Bool} → b ≡ true → b ≡ false → StandsAt v version c x u
+      true_and_false e f = cc
 
 pub not_both : {A : Type 0} {b : Bool} → b ≡ true → b ≡ false → A
 not_both e f = cc
