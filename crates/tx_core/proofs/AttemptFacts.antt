@@ -1,8 +1,10 @@
 -- What keeps the facts of an attempt.
-use Rattle.std.proofs.Common.{◌≡◌, ◌≢◌, ℕ, zero, suc, ◌+◌, ◌<◌, ◌≤◌, eqb, Bool, true, false, List, [], ◌∷◌, ◌++◌, length, slice_index, if◌then◌else◌, Some, None, ◌⊎◌, inl, inr, refl, sym, ap, ◌∙◌, arith}
+use Rattle.std.proofs.Common.{◌≡◌, ◌≢◌, ℕ, zero, suc, ◌+◌, ◌<◌, ◌≤◌, eqb, Bool, true, false, List, [], ◌∷◌, ◌++◌, length, slice_index, is_some, All, subst, if◌then◌else◌, Some, None, ◌⊎◌, inl, inr, refl, sym, ap, ◌∙◌, arith}
 use Rattle.std.proofs.lemmas.Bool.Decides.{nat_tests}
 use Rattle.std.proofs.lemmas.List.{length_push}
 use Rattle.std.proofs.lemmas.Map.Views.{All-keys-insert_entry}
+use Rattle.std.proofs.Math.Decide.{ℕ_discrete}
+use Rattle.std.specs.Map.{keys_of}
 use Rattle.std.specs.Ordering.{nat_cmp}
 use Rattle.cell_table.specs.Cells.{has}
 use Rattle.cell_table.specs.Sorted.{Among}
@@ -13,7 +15,7 @@ use Rattle.cell_table.specs.Pass.{TableState, PassState, IsPassOf, with_view}
 use Rattle.attempt_lists.specs.Cells.{Entries, Listed, word_at, word_of, cell_at, put}
 use Rattle.attempt_lists.specs.Levels.{Levels}
 use Rattle.attempt_lists.specs.Observed.{Observed}
-use Rattle.tx_core.specs.Seen.{LooksOnly, IsSeen}
+use Rattle.tx_core.specs.Seen.{LooksOnly, KnowsMore, IsSeen}
 use Rattle.tx_core.specs.Tx.{IsAttempt}
 use Rattle.tx_core.proofs.Looks.{seen_grows, drawn_grows}
 
@@ -39,6 +41,14 @@ word_at-push (e ∷ es) cell word q none =
     let rest = word_at-push es cell word q (grind (arith, nat_tests, none)) in
     (grind (arith, nat_tests, none, rest.0), rest.1)
 
+-- what holds of all cells of the list holds of one in it
+pub in_keys : (P : ℕ → Type 0) (es : Entries) (c : ℕ) → All P (keys_of es) → is_some (word_at es c) ≡ true → P c
+in_keys P [] c all some = cc
+in_keys P (e ∷ es) c all some = elim (ℕ_discrete e.0 c) [
+  | yes same ↦ subst P same (all 0 0 (omega arith))
+  | no away ↦ in_keys P es c (λ k d lt. all (suc k) d (omega arith)) (grind (arith, nat_tests, away, some))
+]
+
 module _ {M D : Type 0} (table : TableState M) (version : ℕ) where
   -- the view knows more, and the attempt holds what it held
   pub attempt_moves : (p q : PassState M D) (reads : Observed) (writes : Levels) (held : Listed) (committing : Bool) → Grows p.view q.view → q.view.held ≡ p.view.held → q.view.stage ≡ p.view.stage → (q.seen ≤ version) × (version ≤ q.view.known) → q.reserved ≡ p.reserved → IsPassOf table q → IsAttempt table p version reads writes held committing → IsAttempt table q version reads writes held committing
@@ -60,6 +70,12 @@ module _ {M D : Type 0} (table : TableState M) (version : ℕ) where
     early = a.early;
     reserved = rw reserved a.reserved;
   }
+
+  -- a load of the clock, and loads of words after it
+  pub attempt_knows : (p q : PassState M D) (reads : Observed) (writes : Levels) (held : Listed) (committing : Bool) → KnowsMore p q → IsPassOf table q → IsAttempt table p version reads writes held committing → IsAttempt table q version reads writes held committing
+  attempt_knows p q reads writes held committing knows of a =
+      let seen : q.seen ≡ p.seen = ap (λ (s : PassState M D). s.seen) knows.is in
+      attempt_moves p q reads writes held committing knows.grows knows.held knows.stage (rw seen a.begun.0, omega (arith, a.begun.1, knows.grows.known)) (ap (λ (s : PassState M D). s.reserved) knows.is) of a
 
   -- loads of words
   pub attempt_looks : (p q : PassState M D) (reads : Observed) (writes : Levels) (held : Listed) (committing : Bool) → LooksOnly p q → IsPassOf table q → IsAttempt table p version reads writes held committing → IsAttempt table q version reads writes held committing
@@ -115,6 +131,27 @@ module _ {M D : Type 0} (table : TableState M) (version : ℕ) where
     undrawn = a.undrawn;
     nothing_drawn = a.nothing_drawn;
     early = λ before i lt. rw versions (a.early before i (rw observations at lt));
+    reserved = a.reserved;
+  }
+
+  -- room for more writes
+  pub attempt_rooms : (p : PassState M D) (reads : Observed) (writes more : Levels) (held : Listed) (committing : Bool) → more.parent ≡ writes.parent → more.child ≡ writes.child → IsAttempt table p version reads writes held committing → IsAttempt table p version reads more held committing
+  attempt_rooms p reads writes more held committing parent child a = record {
+    of = a.of;
+    few = a.few;
+    begun = a.begun;
+    observed = a.observed;
+    written = rw parent a.written;
+    no_child = child ∙ a.no_child;
+    holds = a.holds;
+    in_table = a.in_table;
+    sized = a.sized;
+    met = λ c r w. a.met c r (rw (← parent) w);
+    pinned = a.pinned;
+    undecided = a.undecided;
+    undrawn = a.undrawn;
+    nothing_drawn = a.nothing_drawn;
+    early = a.early;
     reserved = a.reserved;
   }
 

@@ -13,8 +13,8 @@ use Rattle.cell_table.specs.Steps.{Triples, Grows, Validated, Observes, looked, 
 use Rattle.cell_table.specs.Pass.{PassState, with_view}
 use Rattle.cell_table.specs.Cells.{has}
 use Rattle.cell_table.specs.Rule.{cells_of}
-use Rattle.cell_table.specs.Steps.{taken, drawn, validate_all}
-use Rattle.tx_core.specs.Seen.{IsLooked, LooksOnly, StandsAt, IsSeen, Takes}
+use Rattle.cell_table.specs.Steps.{taken, drawn, validate_all, validate_open, clocked}
+use Rattle.tx_core.specs.Seen.{IsLooked, LooksOnly, KnowsMore, StandsAt, IsSeen, Takes}
 use Rattle.std.proofs.lemmas.Bool.{cases_lt}
 
 -- a list of triples keeps what it has
@@ -227,3 +227,32 @@ drawn_grows v d later = record { meaning = refl; opening = refl; total = refl; k
 
 pub observes_grows : {M D : Type 0} (v w : View M D) (c x p : ℕ) → Grows v w → Observes v c x p → Observes w c x p
 observes_grows v w c x p g o = (o.0, o.1, g.values _ o.2, g.validations _ o.3, o.4, o.5)
+
+has_all_open : {D : Type 0} (st : Stage D) (held : List (ℕ × ℕ)) (p : ℕ) (ss : Triples) → HasAll ss (validate_open st held p ss)
+has_all_open Open held p ss = has_all_all held p ss
+has_all_open (Drawn u) held p ss = λ t h. h
+has_all_open (Decided u r stored) held p ss = λ t h. h
+
+module _ {M D : Type 0} where
+  -- a load of the clock
+  pub clocked_knows : (p q : PassState M D) (r : ℕ) → q ≡ with_view p (clocked p.view r) → p.view.known ≤ r → KnowsMore p q
+  clocked_knows p q r is later =
+      let view : q.view ≡ clocked p.view r = ap (λ (s : PassState M D). s.view) is in
+      record {
+        is = is ∙ ap (with_view p) (sym view);
+        grows = rw view (record { meaning = refl; opening = refl; total = refl; known = later; values = λ t h. h; validations = has_all_open p.view.stage p.view.held r p.view.validations });
+        books = ap (λ (v : View M D). v.books) view;
+        draws = ap (λ (v : View M D). v.draws) view;
+        held = ap (λ (v : View M D). v.held) view;
+        stage = ap (λ (v : View M D). v.stage) view;
+      }
+
+  pub knows_then_looks : (p q r : PassState M D) → KnowsMore p q → LooksOnly q r → KnowsMore p r
+  knows_then_looks p q r a b = record {
+    is = b.0 ∙ ap (λ (s : PassState M D). with_view s r.view) a.is;
+    grows = grows_trans p.view q.view r.view a.grows b.1.grows;
+    books = b.1.books ∙ a.books;
+    draws = b.1.draws ∙ a.draws;
+    held = b.1.held ∙ a.held;
+    stage = b.1.stage ∙ a.stage;
+  }

@@ -14,7 +14,8 @@ impl Spare {
 
     // Two more places of each kind.
     fn two_more(self) -> Option<Spare>
-        ensures { IfSome result (λ spare. spare ≡ more_spare 2 self) }
+        ensures more { IfSome result (λ spare. spare ≡ more_spare 2 self) }
+        ensures few { IfSome result (λ spare. (spare.locks < 2 ^ 32) × (spare.observations < 2 ^ 32) × (spare.writes < 2 ^ 32)) }
     {
         Some(Spare {
             locks: self.locks.checked_add(2)?,
@@ -27,11 +28,12 @@ impl Spare {
 impl<'a, M: Meaning> Tx<'a, M> {
     ghost use Rattle.attempt_lists.specs.Parts.{waiting_of, ChangesOnly};
     ghost use Rattle.tx_core.specs.declared.stop.TxState.TheVariants.{Running, Child, ChildStopped, Stopped};
-    ghost use Rattle.tx_core.specs.Additions.{HasTwoEach, more_spare};
+    ghost use Rattle.tx_core.specs.Additions.{HasSpare, HasTwoEach, more_spare};
 
     /// What is true of every attempt before its commit: for each addition that waits two places of each kind are kept.
     pub fn provided(&self)
         ensures twice { self.now.committing ≡ false → HasTwoEach self.now.spare self.now.additions }
+        ensures each { self.now.committing ≡ false → (part : ℕ) → HasSpare self.now.spare (2 * length (waiting_of self.now.additions part)) }
         ensures few { (self.now.spare.locks < 2 ^ 32) × (self.now.spare.observations < 2 ^ 32) × (self.now.spare.writes < 2 ^ 32) }
     {
         let _ = &self.version;

@@ -3,7 +3,7 @@ ghost use Rattle.std.specs.Prelude.{◌≡◌, ◌≢◌, ℕ, ◌+◌, ◌-◌,
 ghost use Rattle.std.specs.Option.{option_or};
 
 use crate::check::check;
-use crate::locks::lock_late;
+use crate::locks::{lock_late, lock_newest};
 use crate::stop::{Stop, TxState};
 use crate::tx::Tx;
 use attempt_lists::Observation;
@@ -42,6 +42,7 @@ impl<'a, M: Meaning> Tx<'a, M> {
         ensures observes { has cell (cells_of self.old.pass.view.held) ≡ false → word_at self.old.writes cell ≡ None → word_at self.old.observations cell ≡ None → IfOk result (λ x. ObservedLate self.old self.new cell x) }
         ensures stopped { IfErr result (λ stop. IsFoundAt cell stop × (self.new ≡ record self.old { pass = self.new.pass; state = Stopped; committing = true }) × LooksOnly self.old.pass self.new.pass) }
         ensures cause { IfErr result (CausedSince (callers_of self.old.pass.view.books) self.old.version (length (trail_of self.old.pass)) (trail_of self.new.pass)) }
+        ensures sole { IsSole self.old.pass → IsOk result }
         ensures twice { word_at self.old.observations cell ≡ None → IfErr result (FoundTwice (length (trail_of self.old.pass)) (trail_of self.new.pass)) }
         ensures pass { HoldsOnly self.old.pass self.new.pass }
         ensures others { SameOthers self.old.pass self.new.pass cell }
@@ -71,6 +72,7 @@ impl<'a, M: Meaning> Tx<'a, M> {
         ensures ok { OnOk result (self.new ≡ record self.old { pass = self.new.pass; spare = record self.old.spare { locks = self.old.spare.locks - 1 } }) }
         ensures stopped { IfErr result (λ stop. IsFoundAt cell stop × (self.new ≡ record self.old { pass = self.new.pass; state = Stopped }) × LooksOnly self.old.pass self.new.pass) }
         ensures cause { IfErr result (CausedSince (callers_of self.old.pass.view.books) self.old.version (length (trail_of self.old.pass)) (trail_of self.new.pass)) }
+        ensures sole { IsSole self.old.pass → IsOk result }
         ensures twice { word_at self.old.observations cell ≡ None → IfErr result (FoundTwice (length (trail_of self.old.pass)) (trail_of self.new.pass)) }
         ensures pass { HoldsOnly self.old.pass self.new.pass }
         ensures others { SameOthers self.old.pass self.new.pass cell }
@@ -104,23 +106,24 @@ impl<'a, M: Meaning> Tx<'a, M> {
         ensures observes { IfOk result (λ x. ObservedLate self.old self.new cell x) }
         ensures stopped { IfErr result (λ stop. IsFoundAt cell stop × (self.new ≡ record self.old { pass = self.new.pass; state = Stopped }) × LooksOnly self.old.pass self.new.pass) }
         ensures cause { IfErr result (CausedSince (callers_of self.old.pass.view.books) self.old.version (length (trail_of self.old.pass)) (trail_of self.new.pass)) }
+        ensures sole { IsSole self.old.pass → IsOk result }
         ensures twice { IfErr result (FoundTwice (length (trail_of self.old.pass)) (trail_of self.new.pass)) }
         ensures pass { HoldsOnly self.old.pass self.new.pass }
         ensures others { SameOthers self.old.pass self.new.pass cell }
         ensures steps { GrewBy 3 (trail_of self.old.pass) (trail_of self.new.pass) }
     {
         let table = self.table;
-        match lock_late(table, &mut self.pass, &self.reads, cell, self.version) {
+        match lock_newest(table, &mut self.pass, cell, self.version) {
             Ok(version) => {
                 let value = table.look_value(&mut self.pass, cell);
+                self.spare.locks -= 1;
+                self.spare.observations -= 1;
                 self.held.push_reserved(cell, version);
                 self.reads.push_reserved(Observation {
                     cell,
                     value,
                     version,
                 });
-                self.spare.locks -= 1;
-                self.spare.observations -= 1;
                 Ok(value)
             }
             Err(stop) => {
@@ -138,10 +141,9 @@ impl<'a, M: Meaning> Tx<'a, M> {
         ensures written { self.new ≡ record self.old { writes = put self.old.writes cell value; spare = record self.old.spare { writes = self.old.spare.writes - (if is_some (word_at self.old.writes cell) then 0 else 1) }; committing = true } }
     {
         self.committing = true;
-        if self.writes.get(cell).is_none() {
-            self.spare.writes -= 1;
-        }
+        let written = self.writes.get(cell).is_some();
         self.writes.put_reserved(cell, value);
+        self.spare.writes = left_after(self.spare.writes, written);
     }
 
     /// Validates every observation, in the order in which they were made, after one load of the clock. Takes no memory.
@@ -170,4 +172,12 @@ impl<'a, M: Meaning> Tx<'a, M> {
             }
         }
     }
+}
+
+// How many of the places for writes are left after one write, of a cell that was written before or not.
+fn left_after(writes: u32, written: bool) -> u32
+    requires { written ≡ false → 0 < writes }
+    ensures { result ≡ writes - (if written then 0 else 1) }
+{
+    if written { writes } else { writes - 1 }
 }

@@ -3,6 +3,7 @@ ghost use Rattle.std.specs.Prelude.{◌≡◌, ℕ, ◌+◌, ◌*◌, ◌/◌, �
 ghost use Rattle.cell_table.specs.Cells.{has};
 ghost use Rattle.cell_table.specs.Rule.{cells_of, callers_of};
 ghost use Rattle.cell_table.specs.declared.view.Stage.TheVariants.{Open};
+ghost use Rattle.cell_table.specs.Steps.{Validated};
 ghost use Rattle.cell_table.specs.Pass.{IsPassOf, IsSole, IsHeld, trail_of};
 ghost use Rattle.attempt_lists.specs.Cells.{word_at, cell_at, word_of};
 ghost use Rattle.tx_core.specs.Causes.{IsCausedAt, CausedSince, IsFoundAt, IsOfOne, FoundTwice, GrewBy};
@@ -29,6 +30,7 @@ pub(crate) fn lock_newest<M: Meaning>(
     requires place { 0 < pass.old.places }
     ensures of { IsPassOf table.now pass.new }
     ensures takes { IfOk result (λ u. Takes pass.old pass.new cell u × (2 * u < 2 ^ 64)) }
+    ensures newest { IfOk result (λ u. u ≤ pass.old.view.known → Validated pass.new.view cell u pass.old.view.known) }
     ensures looks { OnErr result (LooksOnly pass.old pass.new) }
     ensures steps { GrewBy 2 (trail_of pass.old) (trail_of pass.new) }
     ensures cause { IfErr result (IsCausedAt cell (callers_of pass.old.view.books) version (length (trail_of pass.old)) (trail_of pass.new)) }

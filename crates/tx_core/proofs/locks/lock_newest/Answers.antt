@@ -1,9 +1,10 @@
 use Rattle.std.proofs.Common.{◌≡◌, ◌≢◌, ℕ, ◌*◌, ◌<◌, ◌≤◌, length, length-append, sym, ap, ◌∙◌, subst, arith}
 use Rattle.cell_table.specs.declared.view.Event.{Event}
 use Rattle.cell_table.specs.Rule.{callers_of}
-use Rattle.cell_table.specs.Pass.{trail_of}
+use Rattle.cell_table.specs.Steps.{Validated}
+use Rattle.cell_table.specs.Pass.{PassState, trail_of}
 use Rattle.tx_core.specs.Causes.{FoundTwice, IsCausedAt, FoundSince}
-use Rattle.tx_core.proofs.Looks.{looked_is, looks_by}
+use Rattle.tx_core.proofs.Looks.{looked_is, looks_by, has_all_validation}
 use Rattle.tx_core.proofs.Found.{found_by_load, found_by_exchange, found_longer}
 use Rattle.tx_core.proofs.Stopped.{stopped_twice}
 use Rattle.tx_core.proofs.locks.lock_newest.Goals as goal
@@ -38,3 +39,9 @@ returns-in-Err-clause-cause g c = (newer g c).0
 
 pub returns-in-Err-clause-twice : goal.returns-in-Err-clause-twice
 returns-in-Err-clause-twice g c = (newer g c).1
+
+-- the look found the newest version
+pub returns-in-Ok-clause-newest : goal.returns-in-Ok-clause-newest
+returns-in-Ok-clause-newest g c = λ low.
+    let first : Validated c.look_lock-word.new.pass.view c.args.cell c.in-Some.found c.args.pass.now.view.known = c.look_lock-word.ensures.still c.in-Some.found c.in-Some.ensures.1 low in
+    rw (ap (λ (s : PassState _ _). s.view.validations) c.in-Ok.ensures.taken.0) (has_all_validation _ _ _ _ _ first)
