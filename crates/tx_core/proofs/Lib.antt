@@ -10,3 +10,4 @@ pub mod Parts
 pub mod LateLocks
 pub mod Storing
 pub mod Providing
+pub mod SeenWords

@@ -3,6 +3,7 @@
 #![tactic(auto)]
 
 mod additions;
+mod agreed;
 mod check;
 mod commit;
 mod gives;

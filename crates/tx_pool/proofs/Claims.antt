@@ -1,11 +1,13 @@
 -- What one write to a slot makes of the pool.
-use Rattle.std.proofs.Common.{◌≡◌, ℕ, zero, suc, ◌+◌, ◌^◌, ◌<◌, ◌≤◌, List, [], ◌∷◌, ◌++◌, length, get_or, set, Some, None, All, true, false, refl, sym, ap, ◌∙◌, subst, arith, length-set}
+use Rattle.std.proofs.Common.{◌≡◌, ℕ, zero, suc, ◌+◌, ◌-◌, ◌^◌, ◌<◌, ◌≤◌, List, [], ◌∷◌, ◌++◌, length, get_or, set, Option, Some, None, MatchOption, IfSome, is_some, All, true, false, refl, sym, ap, ◌∙◌, subst, arith, length-set}
 use Rattle.std.proofs.lemmas.Bool.Decides.{nat_tests}
 use Rattle.std.proofs.lemmas.List.Elements.{All-set}
 use Rattle.serial_terms.specs.Counts.{times}
 use Rattle.serial_terms.specs.Laws.{PoolsAreCounts}
 use Rattle.serial_terms.specs.Serial.{pool_of}
 use Rattle.tx_pool.specs.declared.part.PoolPart.{PoolPart}
+use Rattle.tx_pool.specs.declared.wanted.Wanted.TheVariants.{Item, Room}
+use Rattle.tx_pool.specs.Walk.{Replaces, HasNone}
 use Rattle.tx_pool.specs.Pool.{items_in, words_in, pool_in, IsFormed, TakesFrom, PutsInto}
 use Rattle.tx_pool.proofs.Items.{pool_less, pool_more, items_fewer, items_none, items_all}
 use Rattle.tx_pool.proofs.Slots.{words_length, words_at, words_set}
@@ -45,3 +47,31 @@ pub put_none : (part : PoolPart) (cells : List ℕ) (x : ℕ) → IsFormed part 
 put_none part cells x formed full =
     let long = words_length part cells formed.0 in
     (items_all (words_in part cells) (λ i lt. let in_part : i < part.slots = omega (arith, long) in rw (words_at part cells i in_part) (full i in_part)) ∙ long, refl)
+
+-- what a take makes of the pool, by the slot that it emptied, if any
+pub takes_pool : (part : PoolPart) (cells then : List ℕ) (old item : Option ℕ) → PoolsAreCounts → IsFormed part cells
+    → MatchOption old (HasNone part Item cells then) (λ w. (i : ℕ) × (i < part.slots) × Replaces (part.base + i) w 0 cells then)
+    → IfSome old (λ w. 0 < w) → MatchOption old (item ≡ None) (λ w. item ≡ Some (w - 1))
+    → IsFormed part then × TakesFrom (pool_in part cells) (pool_in part then) item
+takes_pool part cells then None item law formed has fit is =
+    subst (λ (cs : List ℕ). IsFormed part cs × TakesFrom (pool_in part cells) (pool_in part cs) item) (sym has.1)
+    (formed, subst (λ o. TakesFrom (pool_in part cells) (pool_in part cells) o) (sym is) (take_none part cells formed has.0))
+takes_pool part cells then (Some zero) item law formed has fit is = absurd (omega arith)
+takes_pool part cells then (Some (suc x)) item law formed (i, lt, (here, writes)) fit is =
+    let less_one : suc x - 1 ≡ x = omega arith in
+    subst (λ (cs : List ℕ). IsFormed part cs × TakesFrom (pool_in part cells) (pool_in part cs) item) (sym writes)
+    (formed_set part cells i 0 lt (omega arith) formed,
+     subst (λ o. TakesFrom (pool_in part cells) (pool_in part (set cells (part.base + i) 0)) o) (sym (is ∙ ap Some less_one)) (take_item part cells i x law lt formed here))
+
+-- what a put makes of it, by the slot that it filled, if any
+pub puts_pool : (part : PoolPart) (cells then : List ℕ) (value : ℕ) (old : Option ℕ) → PoolsAreCounts → value < 2 ^ 64 - 1 → IsFormed part cells
+    → MatchOption old (HasNone part Room cells then) (λ w. (i : ℕ) × (i < part.slots) × Replaces (part.base + i) w (value + 1) cells then)
+    → IfSome old (λ w. w ≡ 0)
+    → IsFormed part then × PutsInto value (pool_in part cells) (pool_in part then) (is_some old)
+puts_pool part cells then value None law small formed has fit =
+    subst (λ (cs : List ℕ). IsFormed part cs × PutsInto value (pool_in part cells) (pool_in part cs) false) (sym has.1) (formed, put_none part cells value formed has.0)
+puts_pool part cells then value (Some w) law small formed (i, lt, (here, writes)) fit =
+    let one_more : suc value ≡ value + 1 = omega arith in
+    subst (λ (cs : List ℕ). IsFormed part cs × PutsInto value (pool_in part cells) (pool_in part cs) true) (sym writes)
+    (formed_set part cells i (value + 1) lt (omega (arith, small)) formed,
+     subst (λ z. PutsInto value (pool_in part cells) (pool_in part (set cells (part.base + i) z)) true) one_more (put_item part cells i value law lt formed (here ∙ fit)))

@@ -10,6 +10,7 @@ use Rattle.attempt_lists.specs.Cells.{word_at}
 use Rattle.tx_core.specs.declared.stop.Stop.{Stop}
 use Rattle.tx_core.specs.declared.stop.Stop.TheVariants.{Held, Newer, Memory}
 use Rattle.tx_core.specs.Causes.{FoundSince, CausedSince, IsCausedAt, GrewBy}
+use Rattle.tx_core.specs.Seen.{HoldsOnly}
 use Rattle.tx_core.specs.Tx.{Attempt}
 use Rattle.tx_core.proofs.Looks.{observes_grows}
 use Rattle.tx_core.proofs.Found.{caused_earlier}
@@ -24,7 +25,7 @@ get_first (x ∷ t) more (suc k) e is = get_first t more k e is
 
 -- ---- a longer trail
 
-found_later : (n : ℕ) (t more u : List Event) (c w : ℕ) → u ≡ t ++ more → FoundSince n t c w → FoundSince n u c w
+pub found_later : (n : ℕ) (t more u : List Event) (c w : ℕ) → u ≡ t ++ more → FoundSince n t c w → FoundSince n u c w
 found_later n t more u c w is (k, le, inl loaded) = (k, le, inl (rw is (get_first t more k _ loaded)))
 found_later n t more u c w is (k, le, inr exchanged) = (k, le, inr (rw is (get_first t more k _ exchanged)))
 
@@ -73,17 +74,19 @@ module _ {M D : Type 0} where
   pub unfit_since : (wanted : Wanted) (a m : Attempt M D) (p : PassState M D) (c : ℕ) → LooksOn a m → FoundUnfit wanted m p c → FoundUnfit wanted a p c
   unfit_since wanted a m p c looks h = subst (λ (x : Attempt M D). FoundUnfit wanted x p c) looks.is h
 
-  sole_since : (a m : Attempt M D) → LooksOn a m → IsSole a.pass → IsSole m.pass
-  sole_since a m looks sole =
-      let books : m.pass.books ≡ a.pass.books = ap (λ (s : PassState M D). s.books) looks.none.pass.is in
-      ap length books ∙ sole ∙ sym looks.none.pass.grows.total
+  pub sole_since : (p q : PassState M D) → HoldsOnly p q → IsSole p → IsSole q
+  sole_since p q pass sole =
+      let books : q.books ≡ p.books = ap (λ (s : PassState M D). s.books) pass.is in
+      ap length books ∙ sole ∙ sym pass.grows.total
 
-  pub stopped_since : (a m : Attempt M D) (p : PassState M D) (c k : ℕ) (stop : Stop) → LooksOn a m → GrewBy k (trail_of a.pass) (trail_of m.pass) → FoundStopped m p c stop → FoundStopped a p c stop
-  stopped_since a m p c k stop looks grew h =
-      let version : m.version ≡ a.version = ap (λ (x : Attempt M D). x.version) looks.is in
+  pub stopped_since : (a m : Attempt M D) (p : PassState M D) (c k : ℕ) (stop : Stop) → m.version ≡ a.version → HoldsOnly a.pass m.pass → GrewBy k (trail_of a.pass) (trail_of m.pass) → FoundStopped m p c stop → FoundStopped a p c stop
+  stopped_since a m p c k stop version pass grew h =
       let earlier : length (trail_of a.pass) ≤ length (trail_of m.pass) = omega (arith, ap length grew.1, length-append (trail_of a.pass) grew.0) in
       let cause = caused_earlier (callers_of m.pass.view.books) m.version (length (trail_of a.pass)) (length (trail_of m.pass)) (trail_of p) stop earlier h.1.0 in
-      (λ sole. h.0 (sole_since a m looks sole), (rw (← looks.none.pass.books, ← version) cause, h.1.1))
+      (λ sole. h.0 (sole_since a.pass m.pass pass sole), (rw (← pass.books, ← version) cause, h.1.1))
+
+  pub version_since : (a m : Attempt M D) → LooksOn a m → m.version ≡ a.version
+  version_since a m looks = ap (λ (x : Attempt M D). x.version) looks.is
 
   pub passed_since : (wanted : Wanted) (a m : Attempt M D) (p : PassState M D) (c k : ℕ) → LooksOn a m → GrewBy k (trail_of a.pass) (trail_of m.pass) → PassedOver wanted m p c → PassedOver wanted a p c
   passed_since wanted a m p c k looks grew h =
@@ -91,7 +94,7 @@ module _ {M D : Type 0} where
       record {
         found = elim h.found [
           | inl unfit ↦ inl (unfit_since wanted a m p c looks unfit)
-          | inr stopped ↦ inr (stopped.0, stopped_since a m p c k stopped.0 looks grew stopped.1)
+          | inr stopped ↦ inr (stopped.0, stopped_since a m p c k stopped.0 (version_since a m looks) looks.none.pass grew stopped.1)
         ];
         looked = λ unwritten unobserved.
             let load = h.looked (ap (λ (x : Attempt M D). word_at x.writes c) looks.is ∙ unwritten) (ap (λ (x : Attempt M D). word_at x.observations c) looks.is ∙ unobserved) in

@@ -3,8 +3,10 @@ use Rattle.std.specs.Prelude.{◌≡◌, ℕ, ◌+◌, ◌*◌, ◌<◌, ◌⊎�
 use Rattle.std.specs.Option.{option_or}
 use Rattle.cell_table.specs.Pass.{IsHeld, trail_of}
 use Rattle.attempt_lists.specs.Cells.{Entries, word_at}
+use Rattle.cell_table.specs.declared.view.Event.{Event}
+use Rattle.tx_core.specs.declared.stop.Stop.{Stop}
 use Rattle.tx_core.specs.declared.stop.TxState.TheVariants.{Stopped}
-use Rattle.tx_core.specs.Causes.{GrewBy}
+use Rattle.tx_core.specs.Causes.{IsFound, GrewBy}
 use Rattle.tx_core.specs.Seen.{HoldsOnly, SameOthers}
 use Rattle.tx_core.specs.Tx.{Attempt}
 use Rattle.tx_pool.specs.declared.part.PoolPart.{PoolPart}
@@ -14,7 +16,20 @@ use Rattle.tx_pool.specs.declared.walk.Tried.TheVariants as tried
 use Rattle.tx_pool.specs.declared.walk.Walked.{Walked}
 use Rattle.tx_pool.specs.declared.walk.Walked.TheVariants as walked
 use Rattle.tx_pool.specs.Pool.{slot_at}
-use Rattle.tx_pool.specs.Walk.{IsFit, FoundUnfit, FoundStopped, PassedOver, FirstStop}
+use Rattle.tx_pool.specs.Walk.{IsFit, IsUnfit, FoundUnfit, FoundStopped, PassedOver, FirstStop}
+
+-- where the word wasn't a wanted one, the trail grew by at most so many steps
+abbrev pub UnfitBy : ℕ → List Event → List Event → Tried → Type 0
+UnfitBy n old new tried.Unfit = GrewBy n old new
+UnfitBy n old new (tried.Holds w) = Unit {0}
+UnfitBy n old new (tried.Stopped stop) = Unit {0}
+UnfitBy n old new tried.Memory = Unit {0}
+
+abbrev pub IsNoUnfit : Tried → Type 0
+IsNoUnfit tried.Unfit = ⊥
+IsNoUnfit (tried.Holds w) = Unit {0}
+IsNoUnfit (tried.Stopped stop) = Unit {0}
+IsNoUnfit tried.Memory = Unit {0}
 
 module _ {M D : Type 0} where
   -- no cell came to be held
@@ -46,7 +61,15 @@ module _ {M D : Type 0} where
 
   -- what a walk tells
   abbrev pub WalkTells : PoolPart → ℕ → Wanted → Attempt M D → Attempt M D → Walked → Type 0
-  WalkTells part from wanted a b (walked.Holds at w) = (at < part.slots) × ((j : ℕ) → j < at → PassedOver wanted a b.pass (slot_at part from j)) × HoldsCell a b (slot_at part from at) w × IsFit wanted w
+  WalkTells part from wanted a b (walked.Holds c w) = (at : ℕ) × (at < part.slots) × (c ≡ slot_at part from at) × ((j : ℕ) → j < at → PassedOver wanted a b.pass (slot_at part from j)) × HoldsCell a b c w × IsFit wanted w
   WalkTells part from wanted a b walked.NoneFit = LooksOn a b × ((j : ℕ) → j < part.slots → PassedOver wanted a b.pass (slot_at part from j) × FoundUnfit wanted a b.pass (slot_at part from j)) × GrewBy (3 * part.slots) (trail_of a.pass) (trail_of b.pass)
   WalkTells part from wanted a b (walked.Stopped stop) = LooksOn a b × FirstStop part from wanted a b.pass stop
   WalkTells part from wanted a b walked.Memory = (b ≡ record a { pass = b.pass; state = Stopped }) × NoneHeld a b
+
+  -- the attempt knows a word of the cell, which isn't one that the walk looks for
+  abbrev pub KnownUnfit : Wanted → Attempt M D → ℕ → Type 0
+  KnownUnfit wanted b c = (w : ℕ) × (option_or (word_at b.writes c) (word_at b.observations c) ≡ Some w) × IsUnfit wanted w
+
+  -- the stop that an observation of the slots ended in, where it isn't want of memory
+  abbrev pub SeesStop : PoolPart → ℕ → Attempt M D → Attempt M D → Stop → Type 0
+  SeesStop part from a b stop = IsFound stop → (at : ℕ) × (at < part.slots) × FoundStopped a b.pass (slot_at part from at) stop

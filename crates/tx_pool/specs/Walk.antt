@@ -1,5 +1,5 @@
 -- What a walk once round the slots of a pool finds, and what it leaves of the attempt.
-use Rattle.std.specs.Prelude.{◌≡◌, ℕ, ◌+◌, ◌<◌, ◌⊎◌, Bool, true, false, List, [], ◌∷◌, ◌++◌, length, Some, None, All, MatchOption}
+use Rattle.std.specs.Prelude.{◌≡◌, ℕ, ◌+◌, ◌<◌, ◌≤◌, ◌⊎◌, Bool, true, false, List, [], ◌∷◌, ◌++◌, length, slice_index, slice_set, Some, None, MatchOption}
 use Rattle.std.specs.Option.{option_or}
 use Rattle.cell_table.specs.Cells.{has}
 use Rattle.cell_table.specs.Rule.{cells_of, callers_of}
@@ -28,6 +28,11 @@ IsUnfit Room w = 0 < w
 abbrev pub Fits : Wanted → ℕ → Bool → Type 0
 Fits wanted w true = IsFit wanted w
 Fits wanted w false = IsUnfit wanted w
+
+-- the cells are slots of the walk, each at a later place than the one before it: from the place n on, and before the end
+abbrev pub AreWalked : PoolPart → ℕ → ℕ → ℕ → Entries → Type 0
+AreWalked part from n end [] = n ≤ end
+AreWalked part from n end (o ∷ os) = (at : ℕ) × (n ≤ at) × (at < end) × (o.0 ≡ slot_at part from at) × AreWalked part from (at + 1) end os
 
 module _ {M D : Type 0} where
   -- the cell has the word w for the attempt: its own write, else the value at its version
@@ -61,6 +66,8 @@ module _ {M D : Type 0} where
     pub at : ℕ
     pub on_walk : at < part.slots
     pub before : (j : ℕ) → j < at → PassedOver wanted a b.pass (slot_at part from j)
+    -- on a sole pass it is the first one that the walk looks for
+    pub first : IsSole a.pass → (j : ℕ) → j < at → FoundUnfit wanted a b.pass (slot_at part from j)
     pub known : option_or (word_at a.writes (slot_at part from at)) (word_at b.observations (slot_at part from at)) ≡ Some old
     pub seen : Entries
     pub alone : (seen ≡ []) ⊎ (seen ≡ (slot_at part from at, old) ∷ [])
@@ -69,14 +76,27 @@ module _ {M D : Type 0} where
     pub held : IsHeld b.pass (slot_at part from at)
     pub others : SameOthers a.pass b.pass (slot_at part from at)
 
-  -- slots of the pool alone were observed or came to be held, and nothing was written
-  pub record SeesSlots (part : PoolPart) (a b : Attempt M D) : Type 0 where
+  -- slots alone were observed, in the order of the walk, or came to be held, and nothing was written
+  pub record SeesSlots (part : PoolPart) (from : ℕ) (a b : Attempt M D) : Type 0 where
     pub seen : Entries
-    pub slots : All (λ o. IsSlot part o.0) seen
+    pub walked : AreWalked part from 0 part.slots seen
     pub is : b ≡ record a { pass = b.pass; state = b.state; observations = a.observations ++ seen; versions = b.versions }
     pub pass : HoldsOnly a.pass b.pass
     pub others : (c : ℕ) → (IsSlot part c → ⊥) → has c (cells_of b.pass.view.held) ≡ has c (cells_of a.pass.view.held)
 
+  -- slots alone were observed, in the order of the walk, and nothing was written or came to be held
+  pub record SeesOn (part : PoolPart) (from : ℕ) (a b : Attempt M D) : Type 0 where
+    pub sees : SeesSlots part from a b
+    pub held : b.pass.view.held ≡ a.pass.view.held
+
   -- each slot has an own write or was observed
   abbrev pub AllKnown : PoolPart → Attempt M D → Type 0
   AllKnown part b = (c : ℕ) → IsSlot part c → (w : ℕ) × (option_or (word_at b.writes c) (word_at b.observations c) ≡ Some w)
+
+-- the word w of a slot was replaced by a new one
+abbrev pub Replaces : ℕ → ℕ → ℕ → List ℕ → List ℕ → Type 0
+Replaces c w new cells then = (slice_index cells c ≡ w) × (then ≡ slice_set cells c new)
+
+-- no slot has a word that the walk looks for, and nothing was written
+abbrev pub HasNone : PoolPart → Wanted → List ℕ → List ℕ → Type 0
+HasNone part wanted cells then = ((i : ℕ) → i < part.slots → IsUnfit wanted (slice_index cells (part.base + i))) × (then ≡ cells)

@@ -1,6 +1,8 @@
 //! Pools of items in the cells of a table, one slot a cell.
 #![tactic(auto)]
 
+mod fill;
+mod laws;
 mod part;
 mod walk;
 mod wanted;
