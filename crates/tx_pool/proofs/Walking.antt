@@ -11,6 +11,7 @@ use Rattle.tx_core.proofs.Found.{grew_none, grew_trans, grew_more}
 use Rattle.tx_pool.specs.declared.part.PoolPart.{PoolPart}
 use Rattle.tx_pool.specs.declared.wanted.Wanted.{Wanted}
 use Rattle.tx_pool.specs.declared.walk.Tried.TheVariants as tried
+use Rattle.tx_pool.specs.declared.walk.Walked.{Walked}
 use Rattle.tx_pool.specs.declared.walk.Walked.TheVariants as walked
 use Rattle.tx_pool.specs.Pool.{slot_at}
 use Rattle.tx_pool.specs.Walk.{FoundUnfit, FoundStopped, PassedOver, FirstStop}
@@ -94,15 +95,18 @@ module _ {M D : Type 0} (part : PoolPart) (from : ℕ) (wanted : Wanted) (a : At
           (n, omega arith, subst (λ d. FoundStopped a b.pass d stop) at (stopped_since a m b.pass c (6 * n) stop (version_since a m w.looks) w.looks.none.pass w.grew tells.1), λ j lt. unfit_later wanted a m.pass b.pass (slot_at part from j) tells.0.none.pass.grows (h.0 j lt))
       stops (Some s) is h = subst (FirstOf part from wanted a b (n + 1)) (sym is) (kept n m b s tells.0 grew h)
 
-  -- the first stop of a walk that came to all slots
-  pub first_stop : (n : ℕ) (first : Option Stop) (m : Attempt M D) (stop : Stop) → first ≡ Some stop → n ≡ part.slots → IsWalking part from wanted a n first m → FirstStop part from wanted a m.pass stop
-  first_stop n first m stop is all w = by (subst (FirstOf part from wanted a m n) is w.stops)
+  -- a walk that came to all slots and held none
+  pub walk_ended : (n : ℕ) (first : Option Stop) (m : Attempt M D) (w : Walked) → n ≡ part.slots → IsWalking part from wanted a n first m → MatchOption first (w ≡ walked.NoneFit) (λ stop. w ≡ walked.Stopped stop) → WalkTells part from wanted a m w
+  walk_ended n first m w all h is = by first h.stops is
     where
-      by : FirstOf part from wanted a m n (Some stop) → FirstStop part from wanted a m.pass stop
-      by h = record {
-        at = h.0;
-        on_walk = omega (arith, h.1, all);
-        stopped = h.2;
-        before = h.3;
-        all = λ j lt. w.passed j (omega (arith, lt, all));
-      }
+      by : (first : Option Stop) → FirstOf part from wanted a m n first → MatchOption first (w ≡ walked.NoneFit) (λ stop. w ≡ walked.Stopped stop) → WalkTells part from wanted a m w
+      by None stops is = subst (WalkTells part from wanted a m) (sym is)
+          (h.looks, λ j lt. (h.passed j (omega (arith, lt, all)), stops.0 j (omega (arith, lt, all))), grew_more (3 * n) (3 * part.slots) _ _ (omega (arith, all)) stops.1)
+      by (Some stop) stops is = subst (WalkTells part from wanted a m) (sym is)
+          (h.looks, record {
+            at = stops.0;
+            on_walk = omega (arith, stops.1, all);
+            stopped = stops.2;
+            before = stops.3;
+            all = λ j lt. h.passed j (omega (arith, lt, all));
+          })

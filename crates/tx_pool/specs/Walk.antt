@@ -7,6 +7,7 @@ use Rattle.cell_table.specs.Steps.{Observes}
 use Rattle.cell_table.specs.Pass.{PassState, IsSole, IsHeld, trail_of}
 use Rattle.attempt_lists.specs.Cells.{Entries, word_at, put}
 use Rattle.tx_core.specs.declared.stop.Stop.{Stop}
+use Rattle.tx_core.specs.declared.stop.TxState.TheVariants.{Running}
 use Rattle.tx_core.specs.Causes.{FoundSince, IsCausedAt}
 use Rattle.tx_core.specs.Seen.{HoldsOnly, SameOthers}
 use Rattle.tx_core.specs.Tx.{Attempt}
@@ -33,6 +34,14 @@ Fits wanted w false = IsUnfit wanted w
 abbrev pub AreWalked : PoolPart → ℕ → ℕ → ℕ → Entries → Type 0
 AreWalked part from n end [] = n ≤ end
 AreWalked part from n end (o ∷ os) = (at : ℕ) × (n ≤ at) × (at < end) × (o.0 ≡ slot_at part from at) × AreWalked part from (at + 1) end os
+
+-- What each call of the pool asks of the attempt
+pub record MayCall {M D : Type 0} (part : PoolPart) (tx : Attempt M D) : Type 0 where
+  pub running : tx.state ≡ Running
+  pub before_commit : tx.committing ≡ false
+  -- there are slots, and they are cells of the table
+  pub slots : 0 < part.slots
+  pub cells : part.base + part.slots ≤ length tx.table.opening
 
 module _ {M D : Type 0} where
   -- the cell has the word w for the attempt: its own write, else the value at its version

@@ -6,7 +6,7 @@ ghost use Rattle.tx_core.specs.declared.stop.TxState.TheVariants.{Running, Stopp
 ghost use Rattle.tx_core.specs.Causes.{IsFound, GrewBy};
 ghost use Rattle.tx_core.specs.Parts.{Explains};
 ghost use Rattle.tx_pool.specs.Pool.{IsFormed, slot_at};
-ghost use Rattle.tx_pool.specs.Walk.{IsFit, FoundUnfit, FirstStop, FillsSlot, SeesSlots, SeesOn, AllKnown, Replaces, HasNone};
+ghost use Rattle.tx_pool.specs.Walk.{IsFit, FoundUnfit, FirstStop, FillsSlot, SeesSlots, SeesOn, AllKnown, Replaces, HasNone, MayCall};
 ghost use Rattle.tx_pool.specs.Steps.{KnownUnfit, SeesStop};
 
 use crate::part::PoolPart;
@@ -22,10 +22,7 @@ fn observe_all<M: Meaning>(
     from: u32,
     wanted: Wanted,
 ) -> Result<(), Stop>
-    requires running { tx.old.state ≡ Running }
-    requires before_commit { tx.old.committing ≡ false }
-    requires slots { 0 < part.now.slots }
-    requires cells { part.now.base + part.now.slots ≤ length tx.old.table.opening }
+    requires callable { MayCall part.now tx.old }
     requires small { part.now.base + part.now.slots ≤ 2 ^ 32 }
     requires unfit { (j : ℕ) → j < part.now.slots → FoundUnfit wanted tx.old tx.old.pass (slot_at part.now from j) }
     ensures sees { SeesOn part.now from tx.old tx.new }
@@ -55,10 +52,7 @@ pub(crate) fn fill<M: Meaning>(
     wanted: Wanted,
     word: u64,
 ) -> Result<Option<u64>, Stop>
-    requires running { tx.old.state ≡ Running }
-    requires before_commit { tx.old.committing ≡ false }
-    requires slots { 0 < part.now.slots }
-    requires cells { part.now.base + part.now.slots ≤ length tx.old.table.opening }
+    requires callable { MayCall part.now tx.old }
     requires small { part.now.base + part.now.slots ≤ 2 ^ 32 }
     ensures leaves { IfOk result (λ old. MatchOption old (SeesOn part.now from tx.old tx.new × (tx.new.state ≡ Running) × AllKnown part.now tx.new) (λ w. FillsSlot part.now from wanted tx.old tx.new w word × IsFit wanted w)) }
     ensures explains { IfOk result (λ old. Explains (IsFormed part.now) tx.old tx.new (λ cells then. MatchOption old (HasNone part.now wanted cells then) (λ w. (i : ℕ) × (i < part.now.slots) × Replaces (part.now.base + i) w word cells then))) }

@@ -4,6 +4,8 @@
 mod fill;
 mod laws;
 mod part;
+#[cfg(test)]
+mod tests;
 mod walk;
 mod wanted;
 

@@ -8,7 +8,7 @@ ghost use Rattle.tx_core.specs.Causes.{CausedSince, IsFound, GrewBy};
 ghost use Rattle.tx_core.specs.Parts.{Explains};
 ghost use Rattle.tx_pool.specs.declared.wanted.Wanted.TheVariants.{Item, Room};
 ghost use Rattle.tx_pool.specs.Pool.{pool_in, IsFormed, slot_at, TakesFrom, PutsInto};
-ghost use Rattle.tx_pool.specs.Walk.{FirstStop, FillsSlot, SeesSlots, SeesOn, AllKnown};
+ghost use Rattle.tx_pool.specs.Walk.{FirstStop, FillsSlot, SeesSlots, SeesOn, AllKnown, MayCall};
 
 use crate::fill::fill;
 use crate::wanted::Wanted;
@@ -31,10 +31,7 @@ impl PoolPart {
     /// item could be had: the first of them in the order of the walk is then the answer. After a stop the state is
     /// `Stopped`.
     pub fn take<M: Meaning>(&self, tx: &mut Tx<'_, M>, from: u32) -> Result<Option<u64>, Stop>
-        requires running { tx.old.state ≡ Running }
-        requires before_commit { tx.old.committing ≡ false }
-        requires slots { 0 < self.now.slots }
-        requires cells { self.now.base + self.now.slots ≤ length tx.old.table.opening }
+        requires callable { MayCall self.now tx.old }
         ensures explains { IfOk result (λ item. Explains (IsFormed self.now) tx.old tx.new (λ cells then. IsFormed self.now then × TakesFrom (pool_in self.now cells) (pool_in self.now then) item)) }
         ensures leaves { IfOk result (λ item. MatchOption item (SeesOn self.now from tx.old tx.new × (tx.new.state ≡ Running) × AllKnown self.now tx.new) (λ x. FillsSlot self.now from Item tx.old tx.new (x + 1) 0)) }
         ensures stopped { IfErr result (λ stop. SeesSlots self.now from tx.old tx.new × (tx.new.state ≡ Stopped)) }
@@ -57,10 +54,7 @@ impl PoolPart {
     /// Slots that others hold, or whose word is newer than the attempt, are passed over, and after a stop the state is
     /// `Stopped`, both as with `take`.
     pub fn put<M: Meaning>(&self, tx: &mut Tx<'_, M>, value: u64, from: u32) -> Result<bool, Stop>
-        requires running { tx.old.state ≡ Running }
-        requires before_commit { tx.old.committing ≡ false }
-        requires slots { 0 < self.now.slots }
-        requires cells { self.now.base + self.now.slots ≤ length tx.old.table.opening }
+        requires callable { MayCall self.now tx.old }
         requires value { value < 2 ^ 64 - 1 }
         ensures explains { IfOk result (λ done. Explains (IsFormed self.now) tx.old tx.new (λ cells then. IsFormed self.now then × PutsInto value (pool_in self.now cells) (pool_in self.now then) done)) }
         ensures put { IfOk result (λ done. done ≡ true → FillsSlot self.now from Room tx.old tx.new 0 (value + 1)) }

@@ -1,12 +1,13 @@
 //! The walk once round the slots of a pool.
-ghost use Rattle.std.specs.Prelude.{◌≡◌, ℕ, ◌+◌, ◌*◌, ◌%◌, ◌^◌, ◌<◌, ◌≤◌, false, length, None};
+ghost use Rattle.std.specs.Prelude.{◌≡◌, ℕ, ◌+◌, ◌*◌, ◌%◌, ◌^◌, ◌<◌, ◌≤◌, false, length, None, MatchOption};
 ghost use Rattle.cell_table.specs.Pass.{trail_of};
 ghost use Rattle.attempt_lists.specs.Cells.{word_at};
 ghost use Rattle.tx_core.specs.declared.stop.TxState.TheVariants.{Running};
 ghost use Rattle.tx_core.specs.Causes.{FoundSince, GrewBy};
 ghost use Rattle.tx_pool.specs.Pool.{slot_at};
 ghost use Rattle.tx_pool.specs.Steps.{Tells, WalkTells, UnfitBy, IsNoUnfit};
-ghost use Rattle.tx_pool.specs.Walk.{HasWord, IsFit};
+ghost use Rattle.tx_pool.specs.Walk.{HasWord, IsFit, MayCall};
+ghost use Rattle.tx_pool.specs.declared.walk.Walked.TheVariants.{NoneFit, Stopped};
 
 use crate::part::PoolPart;
 use crate::wanted::Wanted;
@@ -44,10 +45,7 @@ pub(crate) fn walk<M: Meaning>(
     from: u32,
     wanted: Wanted,
 ) -> Walked
-    requires running { tx.old.state ≡ Running }
-    requires before_commit { tx.old.committing ≡ false }
-    requires slots { 0 < part.now.slots }
-    requires cells { part.now.base + part.now.slots ≤ length tx.old.table.opening }
+    requires callable { MayCall part.now tx.old }
     requires small { part.now.base + part.now.slots ≤ 2 ^ 32 }
     ensures tells { WalkTells part.now from wanted tx.old tx.new result }
     ensures steps { GrewBy (6 * part.now.slots) (trail_of tx.old.pass) (trail_of tx.new.pass) }
@@ -63,6 +61,13 @@ pub(crate) fn walk<M: Meaning>(
             Tried::Memory => return Walked::Memory,
         }
     }
+    ended(first)
+}
+
+// What a walk that held no slot comes to, by the first stop that it found.
+fn ended(first: Option<Stop>) -> Walked
+    ensures { MatchOption first (result ≡ NoneFit) (λ stop. result ≡ Stopped stop) }
+{
     match first {
         Some(stop) => Walked::Stopped(stop),
         None => Walked::NoneFit,

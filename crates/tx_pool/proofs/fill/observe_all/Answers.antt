@@ -14,12 +14,12 @@ read-requires-clause-cell g c =
     let at : c.slot-cell.result ≡ slot_at c.args.part.now c.args.from c.loop-i.i = c.slot-cell.ensures c.args.from refl in
     let inside = walk_in c.args.part.now c.args.from c.loop-i.i c.loop-i-test.true in
     let table : c.loop-i.tx.table ≡ c.args.tx.now.table = ap (λ (a : Attempt _ _). a.table) c.loop-i.invariant.upto.on.sees.is in
-    rw table (omega (arith, at, inside.1, c.requires.cells))
+    rw table (omega (arith, at, inside.1, c.requires.callable.cells))
 
 pub agreed-requires : goal.agreed-requires
 agreed-requires g c =
     let adds = read_adds c.loop-i.tx c.read.new.self c.slot-cell.result c.in-Ok.field-0 (λ y is. (c.in-Ok.ensures.own y is).1) (λ y none is. (c.in-Ok.ensures.seen_before y none is).1) c.in-Ok.ensures.observes in
-    record { before_commit = (read_keeps _ _ _ _ adds).1 ∙ ap (λ (a : Attempt _ _). a.committing) c.loop-i.invariant.upto.on.sees.is ∙ c.requires.before_commit }
+    record { before_commit = (read_keeps _ _ _ _ adds).1 ∙ ap (λ (a : Attempt _ _). a.committing) c.loop-i.invariant.upto.on.sees.is ∙ c.requires.callable.before_commit }
 
 pub returns-in-Err-clause-sees : goal.returns-in-Err-clause-sees
 returns-in-Err-clause-sees g c =

@@ -6,7 +6,7 @@ use Rattle.tx_pool.specs.Pool.{slot_at}
 use Rattle.tx_pool.proofs.Walks.{walk_in}
 use Rattle.tx_pool.proofs.Finding.{passed_later}
 use Rattle.tx_pool.proofs.Trying.{tells_since}
-use Rattle.tx_pool.proofs.Walking.{walking_unfit, walking_stopped, first_stop}
+use Rattle.tx_pool.proofs.Walking.{walking_unfit, walking_stopped, walk_ended}
 use Rattle.tx_pool.proofs.walk.walk.Goals.{in-Unfit, in-Stopped}
 use Rattle.tx_pool.proofs.walk.walk.Goals as goal
 
@@ -15,7 +15,7 @@ try_slot-requires-clause-cell g c =
     let at : c.slot-cell.result ≡ slot_at c.args.part.now c.args.from c.loop-i.i = c.slot-cell.ensures c.args.from refl in
     let inside = walk_in c.args.part.now c.args.from c.loop-i.i c.loop-i-test.true in
     let table : c.loop-i.tx.table ≡ c.args.tx.now.table = ap (λ (a : Attempt _ _). a.table) c.loop-i.invariant.looks.is in
-    rw table (omega (arith, at, inside.1, c.requires.cells))
+    rw table (omega (arith, at, inside.1, c.requires.callable.cells))
 
 pub returns-in-Holds-clause-tells : goal.returns-in-Holds-clause-tells
 returns-in-Holds-clause-tells g c =
@@ -38,6 +38,6 @@ loop-i-preserved g c =
       | in-Stopped w ↦ walking_stopped c.args.part.now c.args.from c.args.wanted c.args.tx.now c.loop-i.i c.loop-i.first c.loop-i.tx c.try_slot.new.tx c.slot-cell.result w.in-Stopped.stop c.loop-i.invariant at w.in-Stopped.ensures.tells w.in-Stopped.ensures.looked w.in-Stopped.ensures.steps c.match-try_slot.first (w.first-is ∙ w.or-first.ensures)
     ]
 
-pub returns-in-Some-clause-tells : goal.returns-in-Some-clause-tells
-returns-in-Some-clause-tells g c =
-    (c.loop-i.invariant.looks, first_stop c.args.part.now c.args.from c.args.wanted c.args.tx.now c.loop-i.i c.loop-i.first c.loop-i.tx c.in-Some.stop c.in-Some.is (omega (arith, c.loop-i-test.false, c.loop-i.auto.i-end)) c.loop-i.invariant)
+pub returns-clause-tells : goal.returns-clause-tells
+returns-clause-tells g c =
+    walk_ended c.args.part.now c.args.from c.args.wanted c.args.tx.now c.loop-i.i c.loop-i.first c.loop-i.tx c.ended.result (omega (arith, c.loop-i-test.false, c.loop-i.auto.i-end)) c.loop-i.invariant c.ended.ensures
