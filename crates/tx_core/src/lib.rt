@@ -5,6 +5,7 @@
 #[cfg(test)]
 mod addition_tests;
 mod additions;
+mod agreed;
 mod check;
 mod commit;
 mod gives;

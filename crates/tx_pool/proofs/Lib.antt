@@ -1,0 +1,10 @@
+pub mod Items
+pub mod Slots
+pub mod Walks
+pub mod Claims
+pub mod Finding
+pub mod Trying
+pub mod Walking
+pub mod Seeing
+pub mod Filling
+pub mod Apart

@@ -1,0 +1,12 @@
+//! Pools of items in the cells of a table, one slot a cell.
+#![tactic(auto)]
+
+mod fill;
+mod laws;
+mod part;
+#[cfg(test)]
+mod tests;
+mod walk;
+mod wanted;
+
+pub use part::PoolPart;

@@ -1,0 +1,104 @@
+ghost use Rattle.std.specs.Prelude.{◌≡◌, ◌-◌, ◌^◌, ◌<◌, false};
+ghost use Rattle.tx_core.specs.declared.stop.TxState.TheVariants.{Running};
+ghost use Rattle.tx_pool.specs.Walk.{MayCall};
+
+use crate::PoolPart;
+use cell_table::{CellTable, Pass};
+use std::process::Abort;
+use std::test::Fail;
+use tx_core::{Stop, Tx, Untold};
+
+// Expects that this item is taken, or none.
+fn expect_take(
+    rt: &impl Abort,
+    part: &PoolPart,
+    tx: &mut Tx<'_, Untold>,
+    from: u32,
+    item: Option<u64>,
+)
+    requires callable { MayCall part.now tx.old }
+    ensures callable { MayCall part.now tx.new }
+    ensures draws { tx.new.pass.view.draws ≡ tx.old.pass.view.draws }
+{
+    let taken = part.take(tx, from).expect(rt, "no slot stops the attempt");
+    assert_eq!(rt; taken, item, "the item that is taken from {from} on");
+}
+
+// Expects that the item is put in, or that there is no room.
+fn expect_put(
+    rt: &impl Abort,
+    part: &PoolPart,
+    tx: &mut Tx<'_, Untold>,
+    value: u64,
+    room: bool,
+)
+    requires callable { MayCall part.now tx.old }
+    requires value { value < 2 ^ 64 - 1 }
+    ensures callable { MayCall part.now tx.new }
+{
+    let done = part.put(tx, value, 0).expect(rt, "no slot stops the attempt");
+    assert_eq!(rt; done, room, "room for {value}");
+}
+
+// Commits an attempt that writes, and expects this place.
+fn expect_commit(rt: &impl Abort, mut tx: Tx<'_, Untold>, place: u64) -> Pass<Untold>
+    requires running { tx.state ≡ Running }
+    requires before_commit { tx.committing ≡ false }
+    requires draws { 0 < tx.pass.view.draws }
+{
+    assert!(rt; tx.is_writing(), "the attempt writes");
+    tx.vouched();
+    tx.lock_writes().expect(rt, "the written cells are locked");
+    let drawn = tx.draw_and_check().expect(rt, "what was observed still is so");
+    assert_eq!(rt; drawn, place, "the place of the commit");
+    tx.publish()
+}
+
+#[test]
+fn an_attempt_fills_the_slot_that_it_emptied(rt: HostRuntime) -> Result<(), Fail> {
+    let part = PoolPart { base: 0, slots: 3 };
+    let (table, mut pass) = CellTable::open(rt.alloc(), Untold, &[10, 0, 0], 2)?;
+    let other = pass.split(rt.alloc(), &table, 1)?;
+    let Ok(mut tx) = Tx::begin(rt.alloc(), &table, pass) else {
+        panic!(rt; "the attempt begins");
+    };
+    let Ok(mut watch) = Tx::begin(rt.alloc(), &table, other) else {
+        panic!(rt; "the other attempt begins");
+    };
+    expect_take(&rt, &part, &mut tx, 2, Some(9));
+    assert_eq!(rt; watch.peek(0), Err(Stop::Held { cell: 0, owner: 0 }));
+    assert_eq!(rt; watch.peek(1), Ok(0));
+    assert_eq!(rt; watch.peek(2), Ok(0));
+    let _ = watch.abort();
+    expect_put(&rt, &part, &mut tx, 8, true);
+    expect_put(&rt, &part, &mut tx, 7, true);
+    expect_put(&rt, &part, &mut tx, 6, true);
+    expect_put(&rt, &part, &mut tx, 5, false);
+    expect_take(&rt, &part, &mut tx, 1, Some(7));
+    let _ = tx.abort();
+    Ok(())
+}
+
+#[test]
+fn a_held_slot_stops_a_take_until_it_is_given_back(rt: HostRuntime) -> Result<(), Fail> {
+    let part = PoolPart { base: 0, slots: 1 };
+    let (table, mut pass) = CellTable::open(rt.alloc(), Untold, &[10], 2)?;
+    let other = pass.split(rt.alloc(), &table, 1)?;
+    let Ok(mut first) = Tx::begin(rt.alloc(), &table, pass) else {
+        panic!(rt; "the first attempt begins");
+    };
+    let Ok(mut second) = Tx::begin(rt.alloc(), &table, other) else {
+        panic!(rt; "the second attempt begins");
+    };
+    expect_take(&rt, &part, &mut first, 0, Some(9));
+    let stopped = part.take(&mut second, 0);
+    assert_eq!(rt; stopped, Err(Stop::Held { cell: 0, owner: 0 }));
+    let other = second.abort();
+    let _ = first.abort();
+    let Ok(mut again) = Tx::begin(rt.alloc(), &table, other) else {
+        panic!(rt; "the second attempt begins again");
+    };
+    expect_take(&rt, &part, &mut again, 0, Some(9));
+    let _ = expect_commit(&rt, again, 1);
+    Ok(())
+}
