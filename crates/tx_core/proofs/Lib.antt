@@ -6,3 +6,6 @@ pub mod AttemptFacts
 pub mod Giving
 pub mod Locking
 pub mod Checking
+pub mod LateLocks
+pub mod Storing
+pub mod Providing

@@ -1,3 +1,5 @@
+pub mod Additions
 pub mod Causes
 pub mod Seen
+pub mod Stored
 pub mod Tx
