@@ -2,6 +2,8 @@
 //! counted at several sizes.
 #![tactic(auto)]
 
+ghost use Rattle.std.specs.Prelude.{◌<◌, ◌≤◌, ◌^◌};
+
 mod attempt;
 
 use std::env;
@@ -19,11 +21,11 @@ fn cells_asked_for<R: Env + AllocGlobal>(rt: &R) -> u32
         return USUAL_CELLS;
     };
     match words.nth(1) {
-        Some(Ok(word)) => match word.as_str().parse::<u32>() {
+        Some(word) => match word.as_str().parse::<u32>() {
             Ok(cells) => cells.clamp(1, 1 << 24),
             Err(_) => USUAL_CELLS,
         },
-        _ => USUAL_CELLS,
+        None => USUAL_CELLS,
     }
 }
 
