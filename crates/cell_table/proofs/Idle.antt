@@ -1,5 +1,5 @@
 -- Loads leave a pass idle.
-use Rattle.std.proofs.Common.{◌≡◌, ℕ, ◌%◌, Bool, cond, eqb, true, false, [], sym, ap, ◌∙◌, subst, refl}
+use Rattle.std.proofs.Common.{◌≡◌, ℕ, ◌%◌, Bool, cond, eqb, true, false, sym, ◌∙◌, subst, refl}
 use Rattle.cell_table.specs.declared.view.View.{View}
 use Rattle.cell_table.specs.Steps.{free_look, held_look, looked, valued, IsIdle}
 use Rattle.cell_table.specs.Pass.{PassState, with_view}

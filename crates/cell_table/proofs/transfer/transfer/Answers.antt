@@ -1,4 +1,4 @@
-use Rattle.std.proofs.Common.{◌≡◌, ℕ, List, ap, subst, get_or, ◌∙◌}
+use Rattle.std.proofs.Common.{ℕ, List, ap, subst, get_or, ◌∙◌}
 use Rattle.cell_table.specs.Steps.{Reads}
 use Rattle.cell_table.proofs.transfer.transfer.Goals as goal
 
