@@ -17,8 +17,8 @@ mod locks;
 mod peek;
 mod spare;
 mod steps;
-mod stores;
 mod stop;
+mod stores;
 mod tx;
 mod untold;
 
