@@ -1,3 +1,4 @@
 pub mod Claiming
 pub mod Looking
 pub mod Apart
+pub mod Committing

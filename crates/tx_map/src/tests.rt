@@ -1,12 +1,16 @@
-ghost use Rattle.std.specs.Prelude.{◌≡◌, ◌-◌, ◌^◌, ◌<◌};
+ghost use Rattle.std.specs.Prelude.{◌≡◌, ℕ, ◌-◌, ◌^◌, ◌<◌, false, []};
+ghost use Rattle.attempt_lists.specs.Parts.{waiting_of};
+ghost use Rattle.cell_table.specs.Steps.{IsIdle};
+ghost use Rattle.cell_table.specs.Pass.{IsPassOf};
+ghost use Rattle.tx_core.specs.declared.stop.TxState.TheVariants.{Running};
 ghost use Rattle.tx_map.specs.Calls.{MayCall};
 
 use crate::{MapPart, MapStop};
-use cell_table::CellTable;
+use cell_table::{CellTable, Pass};
 use key_directory::{BelowCapacity, Directory, EveryKey, KeyPass, KeyTest};
 use std::process::Abort;
 use std::test::Fail;
-use tx_core::{Tx, Untold};
+use tx_core::{Stop, Tx, Untold};
 
 // Expects that the map has this value for the key, or none.
 fn expect_get<K: KeyTest>(
@@ -22,6 +26,7 @@ fn expect_get<K: KeyTest>(
     requires key { key < 2 ^ 64 - 1 }
     requires passes { K.passes part.now.capacity key }
     ensures callable { MayCall part.now tx.new directory.now keys.new }
+    ensures same { (tx.new.table ≡ tx.old.table) × (tx.new.writes ≡ tx.old.writes) × (tx.new.additions ≡ tx.old.additions) × (tx.new.pass.view.draws ≡ tx.old.pass.view.draws) }
 {
     let found = part
         .get(tx, directory, keys, key)
@@ -43,6 +48,7 @@ fn put<K: KeyTest>(
     requires passes { K.passes part.now.capacity key }
     requires value { value < 2 ^ 64 - 1 }
     ensures callable { MayCall part.now tx.new directory.now keys.new }
+    ensures same { (tx.new.table ≡ tx.old.table) × (tx.new.pass.view.draws ≡ tx.old.pass.view.draws) }
 {
     part.put(tx, directory, keys, key, value)
         .expect(rt, "the value is put");
@@ -86,6 +92,134 @@ fn expect_put_if_absent<K: KeyTest>(
         .put_if_absent(tx, directory, keys, key, value)
         .expect(rt, "the value is put or there");
     assert_eq!(rt; found, there, "the value of {key} before");
+}
+
+// An attempt of this pass.
+fn begin<'a>(
+    rt: &(impl Abort + AllocGlobal),
+    table: &'a CellTable<Untold>,
+    pass: Pass<Untold>,
+) -> Tx<'a, Untold>
+    requires of { IsPassOf table.now pass }
+    requires idle { IsIdle pass.view }
+    ensures table { result.table ≡ table.now }
+    ensures fresh { (result.state ≡ Running) × (result.committing ≡ false) × (result.writes ≡ []) × ((part : ℕ) → waiting_of result.additions part ≡ []) }
+    ensures draw { 0 < result.pass.view.draws }
+{
+    assert!(rt; pass.draws_left() > 0, "a draw is left");
+    match Tx::begin(rt.alloc(), table, pass) {
+        Ok(tx) => tx,
+        Err(_) => panic!(rt; "the attempt begins"),
+    }
+}
+
+// Commits an attempt that writes, and expects this place.
+fn commit(rt: &impl Abort, mut tx: Tx<'_, Untold>, place: u64) -> Pass<Untold>
+    requires running { tx.state ≡ Running }
+    requires first { tx.committing ≡ false }
+    requires draw { 0 < tx.pass.view.draws }
+    ensures of { IsPassOf tx.entry.table result }
+    ensures idle { IsIdle result.view }
+{
+    assert!(rt; tx.is_writing(), "a cell is written");
+    let Ok(()) = tx.lock_writes() else {
+        panic!(rt; "the cells are locked");
+    };
+    let Ok(drawn) = tx.draw_and_check() else {
+        panic!(rt; "the observations stand");
+    };
+    assert_eq!(rt; drawn, place, "the place of the commit");
+    tx.publish()
+}
+
+// Expects that the commit of an attempt is refused so, after its locks were taken.
+fn expect_refusal(rt: &impl Abort, mut tx: Tx<'_, Untold>, stop: Stop) -> Pass<Untold>
+    requires running { tx.state ≡ Running }
+    requires first { tx.committing ≡ false }
+    requires draw { 0 < tx.pass.view.draws }
+    ensures of { IsPassOf tx.entry.table result }
+    ensures idle { IsIdle result.view }
+{
+    assert!(rt; tx.is_writing(), "a cell is written");
+    let Ok(()) = tx.lock_writes() else {
+        panic!(rt; "the cells are locked");
+    };
+    let checked = tx.draw_and_check();
+    assert_eq!(rt; checked, Err(stop), "the refusal");
+    tx.abort()
+}
+
+// Commits an attempt that writes nothing, and expects this place.
+fn commit_reads(rt: &impl Abort, tx: Tx<'_, Untold>, place: u64) -> Pass<Untold>
+    requires running { tx.state ≡ Running }
+    requires first { tx.committing ≡ false }
+    requires no_write { tx.writes ≡ [] }
+    requires no_addition { (part : ℕ) → waiting_of tx.additions part ≡ [] }
+    ensures of { IsPassOf tx.entry.table result }
+    ensures idle { IsIdle result.view }
+{
+    let pass = tx.commit_reads();
+    assert_eq!(rt; pass.seen(), place, "the place of the record");
+    pass
+}
+
+#[test]
+fn a_key_that_was_absent_and_is_put_since_refuses_the_commit(rt: HostRuntime) -> Result<(), Fail> {
+    let part = MapPart {
+        base: 0,
+        region: 0,
+        capacity: 16,
+    };
+    let (table, mut first) = CellTable::open(rt.alloc(), Untold, &[0; 16], 2)?;
+    let (directory, mut keys) = Directory::<EveryKey>::open(rt.alloc(), &[16], 2)?;
+    let second = first.split(rt.alloc(), &table, 1)?;
+    let mut second_keys = keys.split(rt.alloc(), &directory, 1)?;
+    let mut tx = begin(&rt, &table, first);
+    expect_get(&rt, &part, &mut tx, &directory, &mut keys, 7, None);
+    let mut other = begin(&rt, &table, second);
+    put(&rt, &part, &mut other, &directory, &mut second_keys, 7, 70);
+    let _ = commit(&rt, other, 1);
+    put(&rt, &part, &mut tx, &directory, &mut keys, 8, 80);
+    let first = expect_refusal(&rt, tx, Stop::Newer { cell: 7, found: 1 });
+    let mut tx = begin(&rt, &table, first);
+    expect_get(&rt, &part, &mut tx, &directory, &mut keys, 7, Some(70));
+    put(&rt, &part, &mut tx, &directory, &mut keys, 8, 80);
+    let _ = commit(&rt, tx, 3);
+    Ok(())
+}
+
+#[test]
+fn two_callers_put_two_keys_and_see_both(rt: HostRuntime) -> Result<(), Fail> {
+    let part = MapPart {
+        base: 0,
+        region: 0,
+        capacity: 16,
+    };
+    let (table, mut first) = CellTable::open(rt.alloc(), Untold, &[0; 16], 2)?;
+    let (directory, mut keys) = Directory::<EveryKey>::open(rt.alloc(), &[16], 2)?;
+    let second = first.split(rt.alloc(), &table, 1)?;
+    let mut second_keys = keys.split(rt.alloc(), &directory, 1)?;
+    let mut tx = begin(&rt, &table, first);
+    put(&rt, &part, &mut tx, &directory, &mut keys, 7, 70);
+    let mut other = begin(&rt, &table, second);
+    put(&rt, &part, &mut other, &directory, &mut second_keys, 8, 80);
+    let first = commit(&rt, tx, 1);
+    let second = commit(&rt, other, 2);
+    let mut tx = begin(&rt, &table, first);
+    expect_get(&rt, &part, &mut tx, &directory, &mut keys, 8, Some(80));
+    let mut other = begin(&rt, &table, second);
+    expect_get(
+        &rt,
+        &part,
+        &mut other,
+        &directory,
+        &mut second_keys,
+        7,
+        Some(70),
+    );
+    let _ = commit_reads(&rt, tx, 2);
+    let _ = commit_reads(&rt, other, 2);
+    Ok(())
 }
 
 #[test]
