@@ -29,7 +29,7 @@ use Rattle.cell_table.proofs.HeldCells.{has_first, has_later}
 use Rattle.cell_table.proofs.Views.{legal, draw_bound, in_callers}
 use Rattle.cell_table.proofs.ValueStore.{observes_stands}
 use Rattle.cell_table.proofs.SeatMove.{idle_mine}
-use Rattle.cell_table.proofs.Laws.{cells_value, cells_length, lawful_at}
+use Rattle.cell_table.proofs.Laws.{cells_value, cells_length, moments}
 use Rattle.cell_table.proofs.Replay.{tells_cells, left_cells, left_versions}
 
 same_list : (xs ys : List ℕ) → length xs ≡ length ys → ((c : ℕ) → c < length xs → get_or xs c 0 ≡ get_or ys c 0) → xs ≡ ys
@@ -118,16 +118,13 @@ module _ {M D : Type 0} (lawful : M → List ℕ → Type 0) (explains : M → L
         books = k.books;
         callers = λ u j t e. let a = k.callers u j t e in let b = k.records u j t e in (b.0, a.0, a.1);
         every = every;
-        lawful_there = λ q. lawful_at lawful explains law m v.opening g k.lawful_opening k.records q;
-        sized = λ q. cells_length v.opening g q;
-        writers = λ u j t e. let b = k.records u j t e in (b.1, each_map _ _ (λ o x. let z = cells_length v.opening g (u - 1) in let l = x.0 in (omega arith, (cells_value v.opening g o.0 x.0 (u - 1)).0 ∙ x.1.0)) t.observations b.2);
+        moments = moments lawful explains law v k;
         readers = each_map _ _ (λ b x. each_map _ _ (λ e y is. let a = y is in let low = a.0 in let up = f.known in (
           omega arith,
           a.1,
           a.2 m same.0,
           each_map _ _ (λ o z. hold o.0 o.1 e.place z.0 z.1) e.content.observations a.3,
         )) b.entries x) p.books pass.readers;
-        observed = λ c x q l o. (hold c x q l o).1;
         values = values;
         versions = versions;
         replayed = λ q. sym (ap (λ (z : List (ℕ × Record D)). replay v.opening (up_to q z)) noted ∙ tells_cells g n v.books k.order own told v.opening q);

@@ -9,6 +9,7 @@ use Rattle.cell_table.specs.declared.view.View.{View}
 use Rattle.cell_table.specs.Rule.{IsRecord}
 use Rattle.cell_table.specs.Steps.{Observes}
 use Rattle.cell_table.specs.Legal.{LegalNow}
+use Rattle.cell_table.specs.Moments.{Moments}
 use Rattle.cell_table.proofs.Sorted.{each_map}
 use Rattle.cell_table.specs.Cells.{after, AllHold}
 use Rattle.cell_table.specs.History.{effect, cells_at}
@@ -63,16 +64,20 @@ module _ {M D : Type 0} (lawful : M → List ℕ → Type 0) (explains : M → L
   lawful_at m o h first rec zero = first
   lawful_at m o h first rec (suc p) = lawful_step m o h p (h (suc p)) (λ k r e. rec (suc p) k r e) (lawful_at m o h first rec p)
 
--- What a view observes at one place holds in one lawful list of cells
+-- What a history that the view fits says of each place, and so of one moment
 module _ {M D : Type 0} (lawful : M → List ℕ → Type 0) (explains : M → List (ℕ × ℕ) → List (ℕ × ℕ) → List D → Type 0)
     (law : (m : M) (cells : List ℕ) (os ws : List (ℕ × ℕ)) (ds : List D) → lawful m cells → AllHold cells os → explains m os ws ds → lawful m (after cells ws)) where
+  pub moments : (v : View M D) (k : LegalNow lawful explains v) → Moments lawful explains k.meaning v k.history
+  moments v k = record {
+    lawful_there = lawful_at lawful explains law k.meaning v.opening k.history k.lawful_opening k.records;
+    sized = cells_length v.opening k.history;
+    writers = λ w j r e. let b = k.records w j r e in (b.1, each_map _ _ (λ o x. let z = cells_length v.opening k.history (w - 1) in let l = x.0 in (omega arith, (cells_value v.opening k.history o.0 x.0 (w - 1)).0 ∙ x.1.0)) r.observations b.2);
+    observed = λ c x q l o. (cells_value v.opening k.history c l q).0 ∙ (observes_stands v.opening k.history k.clock v k.values k.validations c x q o).0;
+  }
+
   pub vouched : (v : View M D) (k : LegalNow lawful explains v) (m : M) → v.meaning ≡ Some m → (p : ℕ) → (cells : List ℕ) × lawful m cells × (length cells ≡ length v.opening) × ((c x : ℕ) → c < length v.opening → Observes v c x p → get_or cells c 0 ≡ x)
-  vouched v k m is p = let same : Some k.meaning ≡ Some m = sym k.is ∙ is in let one : k.meaning ≡ m = cc in (
-    cells_at v.opening k.history p,
-    subst (λ (z : M). lawful z (cells_at v.opening k.history p)) one (lawful_at lawful explains law k.meaning v.opening k.history k.lawful_opening k.records p),
-    cells_length v.opening k.history p,
-    λ c x l o. (cells_value v.opening k.history c l p).0 ∙ (observes_stands v.opening k.history k.clock v k.values k.validations c x p o).0,
-  )
+  vouched v k m is p = let same : Some k.meaning ≡ Some m = sym k.is ∙ is in let one : k.meaning ≡ m = cc in let there = moments v k in
+      (cells_at v.opening k.history p, subst (λ (z : M). lawful z (cells_at v.opening k.history p)) one (there.lawful_there p), there.sized p, (λ c x l o. there.observed c x p l o))
 
 module _ {M D : Type 0} (lawful : M → List ℕ → Type 0) (explains : M → List (ℕ × ℕ) → List (ℕ × ℕ) → List D → Type 0) where
   -- two observations of one cell at one place have one value

@@ -7,6 +7,7 @@ pub mod Legal
 pub mod Told
 pub mod Pass
 pub mod IsPass
+pub mod Moments
 pub mod Writers
 pub mod Settled
 pub mod Seats

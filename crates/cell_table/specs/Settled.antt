@@ -1,11 +1,11 @@
 -- What stands at the end, where one pass has every caller number.
-use Rattle.std.specs.Prelude.{◌≡◌, ℕ, ◌-◌, ◌<◌, ◌≤◌, true, false, List, [], length, slice_index, Some}
+use Rattle.std.specs.Prelude.{◌≡◌, ℕ, ◌<◌, ◌≤◌, true, false, List, [], length, slice_index, Some}
 use Rattle.cell_table.specs.Sorted.{Each}
 use Rattle.cell_table.specs.Cells.{AllHold, has}
 use Rattle.cell_table.specs.History.{Outcome, decided, cells_at, version_at, records_by}
 use Rattle.cell_table.specs.declared.view.Record.{Record}
 use Rattle.cell_table.specs.Rule.{callers_of}
-use Rattle.cell_table.specs.Steps.{Observes}
+use Rattle.cell_table.specs.Moments.{Moments}
 use Rattle.cell_table.specs.Pass.{PassState}
 use Rattle.cell_table.specs.Writers.{writers_in, up_to, replay, newest_in}
 
@@ -28,15 +28,9 @@ module _ {M D : Type 0} (lawful : M → List ℕ → Type 0) (explains : M → L
     pub callers : (w k : ℕ) (r : Record D) → history w ≡ decided k r → (0 < w) × (w ≤ clock) × (k < p.view.total)
     -- every caller number of the table has its book here
     pub every : (k : ℕ) → k < p.view.total → has k (callers_of p.view.books) ≡ true
-    -- the cells at a place are those after the writers up to it, and they are lawful
-    pub lawful_there : (q : ℕ) → lawful meaning (cells_at p.view.opening history q)
-    pub sized : (q : ℕ) → length (cells_at p.view.opening history q) ≡ length p.view.opening
-    -- a writer is explained, and its observations hold just before its place
-    pub writers : (w k : ℕ) (r : Record D) → history w ≡ decided k r → explains meaning r.observations r.writes r.dones × AllHold (cells_at p.view.opening history (w - 1)) r.observations
+    pub moments : Moments lawful explains meaning p.view history
     -- a reader is explained, and its observations hold at its place
     pub readers : Each (λ b. Each (λ e. e.writer ≡ false → (e.place ≤ clock) × (e.content.writes ≡ []) × explains meaning e.content.observations [] e.content.dones × AllHold (cells_at p.view.opening history e.place) e.content.observations) b.entries) p.books
-    -- so does all that the pass observed, for an attempt that was dropped too
-    pub observed : (c x q : ℕ) → c < length p.view.opening → Observes p.view c x q → slice_index (cells_at p.view.opening history q) c ≡ x
     pub values : w.values ≡ cells_at p.view.opening history clock
     pub versions : (c : ℕ) → c < length p.view.opening → slice_index w.versions c ≡ version_at history c clock
     -- the same by the books alone

@@ -17,8 +17,17 @@ impl<M: Meaning> CellTable<M> {
 
 impl<M: Meaning> Pass<M> {
     ghost use Rattle.cell_table.specs.Steps.{Observes};
+    ghost use Rattle.cell_table.specs.Legal.{LegalNow};
+    ghost use Rattle.cell_table.specs.Moments.{Moments};
     ghost use Rattle.cell_table.specs.Pass.{IsSole};
     ghost use Rattle.cell_table.specs.Writers.{Alone};
+
+    /// In each history that fits what the pass knows: every place has one lawful list of cells, each record is explained and read what stood just before its place, and all that the pass observes stands at its place.
+    pub fn moments(&self)
+        ensures { (legal : LegalNow M.lawful M.explains self.now.view) → Moments M.lawful M.explains legal.meaning self.now.view legal.history }
+    {
+        let _ = &self.seat;
+    }
 
     /// Two observations of one cell at one place have one value.
     pub fn agrees(&self)
