@@ -25,9 +25,10 @@ words_fit (x ∷ items) all (suc k) d lt = words_fit items (λ k d lt. all (suc 
 
 pub opens : (part : PoolPart) (cells items : List ℕ) (n : ℕ) → part.base + part.slots ≤ length cells → All (λ x. x < 2 ^ 64 - 1) items → words_in part cells ≡ map suc items ++ replicate n 0
     → IsFormed part cells × (pool_in part cells ≡ pool_of part.slots items)
-opens part cells items n long all is =
-    ((long, subst (λ (ws : List ℕ). All (λ w. w < 2 ^ 64) ws) (sym is) (All-append (λ (w : ℕ). w < 2 ^ 64) (map suc items) (replicate n 0) (words_fit items all) (All-replicate (λ (w : ℕ). w < 2 ^ 64) n 0 (omega arith)))),
-     ap (λ (ws : List ℕ). pool_of part.slots (items_in ws)) is ∙ ap (pool_of part.slots) (items_first items n))
+opens part cells items n long all is = (
+  (long, subst (λ (ws : List ℕ). All (λ w. w < 2 ^ 64) ws) (sym is) (All-append (λ (w : ℕ). w < 2 ^ 64) (map suc items) (replicate n 0) (words_fit items all) (All-replicate (λ (w : ℕ). w < 2 ^ 64) n 0 (omega arith)))),
+  ap (λ (ws : List ℕ). pool_of part.slots (items_in ws)) is ∙ ap (pool_of part.slots) (items_first items n),
+)
 
 words_apart : (part : PoolPart) (cells : List ℕ) (ws : Entries) → Each (λ w. IsSlot part w.0 → ⊥) ws → words_in part (after cells ws) ≡ words_in part cells
 words_apart part cells [] apart = refl

@@ -27,9 +27,10 @@ formed_set part cells i w lt fits formed =
 pub take_item : (part : PoolPart) (cells : List ℕ) (i x : ℕ) → PoolsAreCounts → i < part.slots → IsFormed part cells → get_or cells (part.base + i) 0 ≡ suc x → TakesFrom (pool_in part cells) (pool_in part (set cells (part.base + i) 0)) (Some x)
 take_item part cells i x law lt formed is =
     let here : get_or (words_in part cells) i 0 ≡ suc x = words_at part cells i lt ∙ is in
-    let in_words : i < length (words_in part cells) = omega (arith, words_length part cells formed.0) in
-    (counted (words_in part cells) i x in_words here,
-     ap (λ (ws : List ℕ). pool_of part.slots (items_in ws)) (words_set part cells i 0 lt) ∙ pool_less (words_in part cells) part.slots i x law in_words here)
+    let in_words : i < length (words_in part cells) = omega (arith, words_length part cells formed.0) in (
+      counted (words_in part cells) i x in_words here,
+      ap (λ (ws : List ℕ). pool_of part.slots (items_in ws)) (words_set part cells i 0 lt) ∙ pool_less (words_in part cells) part.slots i x law in_words here,
+    )
 
 pub take_none : (part : PoolPart) (cells : List ℕ) → IsFormed part cells → ((i : ℕ) → i < part.slots → get_or cells (part.base + i) 0 ≡ 0) → TakesFrom (pool_in part cells) (pool_in part cells) None
 take_none part cells formed none =
@@ -39,9 +40,10 @@ pub put_item : (part : PoolPart) (cells : List ℕ) (i x : ℕ) → PoolsAreCoun
 put_item part cells i x law lt formed is =
     let here : get_or (words_in part cells) i 0 ≡ 0 = words_at part cells i lt ∙ is in
     let long = words_length part cells formed.0 in
-    let in_words : i < length (words_in part cells) = omega (arith, long) in
-    (omega (arith, long, items_fewer (words_in part cells) i in_words here),
-     ap (λ (ws : List ℕ). pool_of part.slots (items_in ws)) (words_set part cells i (suc x) lt) ∙ pool_more (words_in part cells) part.slots i x law in_words here)
+    let in_words : i < length (words_in part cells) = omega (arith, long) in (
+      omega (arith, long, items_fewer (words_in part cells) i in_words here),
+      ap (λ (ws : List ℕ). pool_of part.slots (items_in ws)) (words_set part cells i (suc x) lt) ∙ pool_more (words_in part cells) part.slots i x law in_words here,
+    )
 
 pub put_none : (part : PoolPart) (cells : List ℕ) (x : ℕ) → IsFormed part cells → ((i : ℕ) → i < part.slots → 0 < get_or cells (part.base + i) 0) → PutsInto x (pool_in part cells) (pool_in part cells) false
 put_none part cells x formed full =
@@ -59,9 +61,10 @@ takes_pool part cells then None item law formed has fit is =
 takes_pool part cells then (Some zero) item law formed has fit is = absurd (omega arith)
 takes_pool part cells then (Some (suc x)) item law formed (i, lt, (here, writes)) fit is =
     let less_one : suc x - 1 ≡ x = omega arith in
-    subst (λ (cs : List ℕ). IsFormed part cs × TakesFrom (pool_in part cells) (pool_in part cs) item) (sym writes)
-    (formed_set part cells i 0 lt (omega arith) formed,
-     subst (λ o. TakesFrom (pool_in part cells) (pool_in part (set cells (part.base + i) 0)) o) (sym (is ∙ ap Some less_one)) (take_item part cells i x law lt formed here))
+    subst (λ (cs : List ℕ). IsFormed part cs × TakesFrom (pool_in part cells) (pool_in part cs) item) (sym writes) (
+      formed_set part cells i 0 lt (omega arith) formed,
+      subst (λ o. TakesFrom (pool_in part cells) (pool_in part (set cells (part.base + i) 0)) o) (sym (is ∙ ap Some less_one)) (take_item part cells i x law lt formed here),
+    )
 
 -- what a put makes of it, by the slot that it filled, if any
 pub puts_pool : (part : PoolPart) (cells then : List ℕ) (value : ℕ) (old : Option ℕ) → PoolsAreCounts → value < 2 ^ 64 - 1 → IsFormed part cells
@@ -72,6 +75,7 @@ puts_pool part cells then value None law small formed has fit =
     subst (λ (cs : List ℕ). IsFormed part cs × PutsInto value (pool_in part cells) (pool_in part cs) false) (sym has.1) (formed, put_none part cells value formed has.0)
 puts_pool part cells then value (Some w) law small formed (i, lt, (here, writes)) fit =
     let one_more : suc value ≡ value + 1 = omega arith in
-    subst (λ (cs : List ℕ). IsFormed part cs × PutsInto value (pool_in part cells) (pool_in part cs) true) (sym writes)
-    (formed_set part cells i (value + 1) lt (omega (arith, small)) formed,
-     subst (λ z. PutsInto value (pool_in part cells) (pool_in part (set cells (part.base + i) z)) true) one_more (put_item part cells i value law lt formed (here ∙ fit)))
+    subst (λ (cs : List ℕ). IsFormed part cs × PutsInto value (pool_in part cells) (pool_in part cs) true) (sym writes) (
+      formed_set part cells i (value + 1) lt (omega (arith, small)) formed,
+      subst (λ z. PutsInto value (pool_in part cells) (pool_in part (set cells (part.base + i) z)) true) one_more (put_item part cells i value law lt formed (here ∙ fit)),
+    )

@@ -151,14 +151,15 @@ module _ {M D : Type 0} (part : PoolPart) (from : ℕ) (wanted : Wanted) where
       → Explains (IsFormed part) a b (λ cells then. HasNone part wanted cells then)
   explains_none a b writes shows sized known cells all formed =
       let same : after cells b.writes ≡ after cells a.writes = ap (after cells) writes in
-      let long : part.base + part.slots ≤ length cells = omega (arith, formed.0, ap length same, sized cells) in
-      (λ i lt.
-        let at = walk_covers from i part.slots lt in
-        let h = known at.0 at.1 in
-        let here : slot_at part from at.0 ≡ part.base + i = ap (λ (k : ℕ). part.base + k) at.2 in
-        let word : get_or (after cells b.writes) (slot_at part from at.0) 0 ≡ h.0 = shows (slot_at part from at.0) h.0 h.1 cells all (omega (arith, here, long, lt)) in
-        subst (IsUnfit wanted) (sym (subst (λ d. get_or (after cells a.writes) d 0 ≡ h.0) here (subst (λ (cs : List ℕ). get_or cs (slot_at part from at.0) 0 ≡ h.0) same word))) h.2,
-       same)
+      let long : part.base + part.slots ≤ length cells = omega (arith, formed.0, ap length same, sized cells) in (
+        λ i lt.
+            let at = walk_covers from i part.slots lt in
+            let h = known at.0 at.1 in
+            let here : slot_at part from at.0 ≡ part.base + i = ap (λ (k : ℕ). part.base + k) at.2 in
+            let word : get_or (after cells b.writes) (slot_at part from at.0) 0 ≡ h.0 = shows (slot_at part from at.0) h.0 h.1 cells all (omega (arith, here, long, lt)) in
+            subst (IsUnfit wanted) (sym (subst (λ d. get_or (after cells a.writes) d 0 ≡ h.0) here (subst (λ (cs : List ℕ). get_or cs (slot_at part from at.0) 0 ≡ h.0) same word))) h.2,
+        same,
+      )
 
   pub explains_fill : (a m b : Attempt M D) (at c w word : ℕ) → at < part.slots → c ≡ slot_at part from at → HoldsCell a m c w
       → ((c x : ℕ) → option_or (word_at m.writes c) (word_at m.observations c) ≡ Some x → Shows m c x)
@@ -173,7 +174,11 @@ module _ {M D : Type 0} (part : PoolPart) (from : ℕ) (wanted : Wanted) where
       let known : option_or (word_at m.writes c) (word_at m.observations c) ≡ Some w = subst (λ (ws : Entries). option_or (word_at ws c) (word_at m.observations c) ≡ Some w) (sym writes) h.known in
       let inside : (from + at) % part.slots < part.slots = mod-lt (from + at) (omega (arith, lt)) in
       let long : part.base + part.slots ≤ length cells = omega (arith, formed.0, ap length before, sized cells) in
-      let word_there : get_or (after cells m.writes) c 0 ≡ w = shows c w known cells observed (omega (arith, is, long, inside)) in
-      ((from + at) % part.slots, inside,
-       (subst (λ d. get_or (after cells a.writes) d 0 ≡ w) is (subst (λ (cs : List ℕ). get_or cs c 0 ≡ w) before word_there),
-        ap (λ (s : Attempt M D). after cells s.writes) new ∙ puts cells c word ∙ ap (λ (cs : List ℕ). set cs c word) before ∙ ap (λ d. set (after cells a.writes) d word) is))
+      let word_there : get_or (after cells m.writes) c 0 ≡ w = shows c w known cells observed (omega (arith, is, long, inside)) in (
+        (from + at) % part.slots,
+        inside,
+        (
+          subst (λ d. get_or (after cells a.writes) d 0 ≡ w) is (subst (λ (cs : List ℕ). get_or cs c 0 ≡ w) before word_there),
+          ap (λ (s : Attempt M D). after cells s.writes) new ∙ puts cells c word ∙ ap (λ (cs : List ℕ). set cs c word) before ∙ ap (λ d. set (after cells a.writes) d word) is,
+        ),
+      )

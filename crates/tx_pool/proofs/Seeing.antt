@@ -178,15 +178,19 @@ module _ {M D : Type 0} (part : PoolPart) (from : ℕ) (wanted : Wanted) (a : At
   -- the stop that a read ended in
   pub sees_stop : (n : ℕ) (b e : Attempt M D) (c : ℕ) (stop : Stop) → IsSeeing n b → c ≡ slot_at part from n → n < part.slots → (IsSole b.pass → stop ≡ Memory) → IsOfCell c stop
       → CausedSince (callers_of b.pass.view.books) b.version (length (trail_of b.pass)) (trail_of e.pass) stop → SeesStop part from a e stop
-  sees_stop n b e c stop h at lt sole of cause found =
-      (n, lt, subst (λ d. FoundStopped a e.pass d stop) at
+  sees_stop n b e c stop h at lt sole of cause found = (
+    n,
+    lt,
+    subst (λ d. FoundStopped a e.pass d stop) at
         (stopped_since a b e.pass c (3 * n) stop (ap (λ (s : Attempt M D). s.version) h.upto.on.sees.is) h.upto.on.sees.pass h.grew
-          (λ all. memory_not_found stop (sole all) found, (cause, found_at c stop of found))))
+        (λ all. memory_not_found stop (sole all) found, (cause, found_at c stop of found))),
+  )
     where
       memory_not_found : (stop : Stop) → stop ≡ Memory → IsFound stop → ⊥
       memory_not_found (Held d k) is found = cc
       memory_not_found (Newer d k) is found = cc
       memory_not_found Memory is found = found
+
       found_at : (c : ℕ) (stop : Stop) → IsOfCell c stop → IsFound stop → IsFoundAt c stop
       found_at c (Held d k) of found = of
       found_at c (Newer d k) of found = of

@@ -23,8 +23,10 @@ words_outside part cells c w out = ⊎_elim below above (sides c part.base)
   where
     sides : (a b : ℕ) → (a < b) ⊎ (b ≤ a)
     sides a b = grind arith
+
     below : c < part.base → words_in part (set cells c w) ≡ words_in part cells
     below lt = ap (take part.slots) (drop-set-lt part.base cells c w lt)
+
     above : part.base ≤ c → words_in part (set cells c w) ≡ words_in part cells
     above le =
         let far : part.slots ≤ c - part.base = ⊎_elim (λ in_part. absurd (out (le, in_part))) (λ past. omega arith) (sides c (part.base + part.slots)) in

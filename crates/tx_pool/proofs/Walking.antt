@@ -102,11 +102,13 @@ module _ {M D : Type 0} (part : PoolPart) (from : ℕ) (wanted : Wanted) (a : At
       by : (first : Option Stop) → FirstOf part from wanted a m n first → MatchOption first (w ≡ walked.NoneFit) (λ stop. w ≡ walked.Stopped stop) → WalkTells part from wanted a m w
       by None stops is = subst (WalkTells part from wanted a m) (sym is)
           (h.looks, λ j lt. (h.passed j (omega (arith, lt, all)), stops.0 j (omega (arith, lt, all))), grew_more (3 * n) (3 * part.slots) _ _ (omega (arith, all)) stops.1)
-      by (Some stop) stops is = subst (WalkTells part from wanted a m) (sym is)
-          (h.looks, record {
-            at = stops.0;
-            on_walk = omega (arith, stops.1, all);
-            stopped = stops.2;
-            before = stops.3;
-            all = λ j lt. h.passed j (omega (arith, lt, all));
-          })
+      by (Some stop) stops is = subst (WalkTells part from wanted a m) (sym is) (
+        h.looks,
+        record {
+          at = stops.0;
+          on_walk = omega (arith, stops.1, all);
+          stopped = stops.2;
+          before = stops.3;
+          all = λ j lt. h.passed j (omega (arith, lt, all));
+        },
+      )

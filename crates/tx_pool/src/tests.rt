@@ -1,4 +1,6 @@
-ghost use Rattle.std.specs.Prelude.{◌≡◌, ◌-◌, ◌^◌, ◌<◌, false};
+ghost use Rattle.std.specs.Prelude.{◌≡◌, ◌-◌, ◌^◌, ◌<◌, false, length};
+ghost use Rattle.cell_table.specs.Steps.{IsIdle};
+ghost use Rattle.cell_table.specs.Pass.{IsPassOf};
 ghost use Rattle.tx_core.specs.declared.stop.TxState.TheVariants.{Running};
 ghost use Rattle.tx_pool.specs.Walk.{MayCall};
 
@@ -25,19 +27,38 @@ fn expect_take(
 }
 
 // Expects that the item is put in, or that there is no room.
-fn expect_put(
-    rt: &impl Abort,
-    part: &PoolPart,
-    tx: &mut Tx<'_, Untold>,
-    value: u64,
-    room: bool,
-)
+fn expect_put(rt: &impl Abort, part: &PoolPart, tx: &mut Tx<'_, Untold>, value: u64, room: bool)
     requires callable { MayCall part.now tx.old }
     requires value { value < 2 ^ 64 - 1 }
     ensures callable { MayCall part.now tx.new }
 {
-    let done = part.put(tx, value, 0).expect(rt, "no slot stops the attempt");
+    let done = part
+        .put(tx, value, 0)
+        .expect(rt, "no slot stops the attempt");
     assert_eq!(rt; done, room, "room for {value}");
+}
+
+// Expects that this caller holds the pool's first slot, and ends the attempt.
+fn expect_held(
+    rt: &impl Abort,
+    part: &PoolPart,
+    table: &CellTable<Untold>,
+    mut tx: Tx<'_, Untold>,
+    owner: u32,
+) -> Pass<Untold>
+    requires callable { MayCall part.now tx }
+    requires table { tx.table ≡ table.now }
+    requires draws { 0 < tx.pass.view.draws }
+    ensures of { IsPassOf table.now result }
+    ensures idle { IsIdle result.view }
+    ensures draws { 0 < result.view.draws }
+{
+    let _ = table;
+    let Err(stop) = part.take(&mut tx, 0) else {
+        panic!(rt; "the slot is held");
+    };
+    assert_eq!(rt; stop, Stop::Held { cell: 0, owner });
+    tx.abort()
 }
 
 // Commits an attempt that writes, and expects this place.
@@ -45,11 +66,15 @@ fn expect_commit(rt: &impl Abort, mut tx: Tx<'_, Untold>, place: u64) -> Pass<Un
     requires running { tx.state ≡ Running }
     requires before_commit { tx.committing ≡ false }
     requires draws { 0 < tx.pass.view.draws }
+    requires writes { 0 < length tx.writes }
 {
-    assert!(rt; tx.is_writing(), "the attempt writes");
     tx.vouched();
-    tx.lock_writes().expect(rt, "the written cells are locked");
-    let drawn = tx.draw_and_check().expect(rt, "what was observed still is so");
+    let Ok(()) = tx.lock_writes() else {
+        panic!(rt; "the written cells are locked");
+    };
+    let Ok(drawn) = tx.draw_and_check() else {
+        panic!(rt; "what was observed still is so");
+    };
     assert_eq!(rt; drawn, place, "the place of the commit");
     tx.publish()
 }
@@ -91,14 +116,13 @@ fn a_held_slot_stops_a_take_until_it_is_given_back(rt: HostRuntime) -> Result<()
         panic!(rt; "the second attempt begins");
     };
     expect_take(&rt, &part, &mut first, 0, Some(9));
-    let stopped = part.take(&mut second, 0);
-    assert_eq!(rt; stopped, Err(Stop::Held { cell: 0, owner: 0 }));
-    let other = second.abort();
+    let back = expect_held(&rt, &part, &table, second, 0);
     let _ = first.abort();
-    let Ok(mut again) = Tx::begin(rt.alloc(), &table, other) else {
+    let Ok(mut again) = Tx::begin(rt.alloc(), &table, back) else {
         panic!(rt; "the second attempt begins again");
     };
     expect_take(&rt, &part, &mut again, 0, Some(9));
+    assert!(rt; again.is_writing(), "the slot is emptied");
     let _ = expect_commit(&rt, again, 1);
     Ok(())
 }

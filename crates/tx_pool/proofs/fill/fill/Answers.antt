@@ -21,9 +21,11 @@ returns-in-Ok-clause-explains g c =
     explains_fill c.args.part.now c.args.from c.args.wanted c.args.tx.now c.walk.new.tx c.write.new.self w.0 c.in-Holds.cell c.in-Holds.old c.args.word w.1 w.2 w.4 c.laid_over.ensures.shows c.laid_over.ensures.put c.laid_over.ensures.sized c.in-Ok.ensures.ok
 
 pub returns-in-Ok-observe_all-clause-leaves : goal.returns-in-Ok-observe_all-clause-leaves
-returns-in-Ok-observe_all-clause-leaves g c =
-    (sees_since c.args.part.now c.args.from c.args.tx.now c.walk.new.tx c.observe_all.new.tx c.in-NoneFit.ensures.tells.0 c.in-Ok-observe_all.ensures.sees, c.in-Ok-observe_all.ensures.running,
-     all_known c.args.part.now c.args.from c.args.wanted c.observe_all.new.tx c.in-Ok-observe_all.ensures.known)
+returns-in-Ok-observe_all-clause-leaves g c = (
+  sees_since c.args.part.now c.args.from c.args.tx.now c.walk.new.tx c.observe_all.new.tx c.in-NoneFit.ensures.tells.0 c.in-Ok-observe_all.ensures.sees,
+  c.in-Ok-observe_all.ensures.running,
+  all_known c.args.part.now c.args.from c.args.wanted c.observe_all.new.tx c.in-Ok-observe_all.ensures.known,
+)
 
 pub returns-in-Ok-observe_all-clause-explains : goal.returns-in-Ok-observe_all-clause-explains
 returns-in-Ok-observe_all-clause-explains g c =
@@ -36,10 +38,11 @@ returns-in-Err-observe_all-clause-stopped g c =
     ((sees_since c.args.part.now c.args.from c.args.tx.now c.walk.new.tx c.observe_all.new.tx c.in-NoneFit.ensures.tells.0 c.in-Err-observe_all.ensures.sees).sees, c.in-Err-observe_all.ensures.stopped.0)
 
 pub returns-in-Err-observe_all-clause-walk_found : goal.returns-in-Err-observe_all-clause-walk_found
-returns-in-Err-observe_all-clause-walk_found g c found =
-    (stop_since c.args.part.now c.args.from c.args.wanted c.args.tx.now c.walk.new.tx c.observe_all.new.tx _ _ c.in-Err-observe_all.stop c.in-NoneFit.ensures.tells.0 c.in-NoneFit.ensures.steps c.in-Err-observe_all.ensures.steps c.in-Err-observe_all.ensures.sees
+returns-in-Err-observe_all-clause-walk_found g c found = (
+  stop_since c.args.part.now c.args.from c.args.wanted c.args.tx.now c.walk.new.tx c.observe_all.new.tx _ _ c.in-Err-observe_all.stop c.in-NoneFit.ensures.tells.0 c.in-NoneFit.ensures.steps c.in-Err-observe_all.ensures.steps c.in-Err-observe_all.ensures.sees
       c.in-NoneFit.ensures.tells.1 c.in-Err-observe_all.ensures.stopped.1 found,
-     (sees_since c.args.part.now c.args.from c.args.tx.now c.walk.new.tx c.observe_all.new.tx c.in-NoneFit.ensures.tells.0 c.in-Err-observe_all.ensures.sees).held)
+  (sees_since c.args.part.now c.args.from c.args.tx.now c.walk.new.tx c.observe_all.new.tx c.in-NoneFit.ensures.tells.0 c.in-Err-observe_all.ensures.sees).held,
+)
 
 pub returns-in-Stopped-clause-stopped : goal.returns-in-Stopped-clause-stopped
 returns-in-Stopped-clause-stopped g c =
@@ -48,6 +51,8 @@ returns-in-Stopped-clause-stopped g c =
 pub returns-in-Err-clause-stopped : goal.returns-in-Err-clause-stopped
 returns-in-Err-clause-stopped g c =
     let w = c.in-Holds.ensures.tells in
-    let state : c.write.new.self.state ≡ Stopped = ap (λ (a : Attempt _ _). a.state) c.in-Err.ensures.stopped in
-    (fills_none c.args.part.now c.args.from c.args.wanted c.args.tx.now c.walk.new.tx c.write.new.self w.0 c.in-Holds.cell c.in-Holds.old w.1 w.2 w.4
-      (c.in-Err.ensures.stopped ∙ ap (λ st. record c.walk.new.tx { pass = c.write.new.self.pass; state = st }) (sym state)) c.in-Err.ensures.pass, state)
+    let state : c.write.new.self.state ≡ Stopped = ap (λ (a : Attempt _ _). a.state) c.in-Err.ensures.stopped in (
+      fills_none c.args.part.now c.args.from c.args.wanted c.args.tx.now c.walk.new.tx c.write.new.self w.0 c.in-Holds.cell c.in-Holds.old w.1 w.2 w.4
+          (c.in-Err.ensures.stopped ∙ ap (λ st. record c.walk.new.tx { pass = c.write.new.self.pass; state = st }) (sym state)) c.in-Err.ensures.pass,
+      state,
+    )

@@ -12,7 +12,8 @@ loop-i-init g c = seeing_start c.args.part.now c.args.from c.args.wanted c.args.
 pub read-requires-clause-cell : goal.read-requires-clause-cell
 read-requires-clause-cell g c =
     let at : c.slot-cell.result ≡ slot_at c.args.part.now c.args.from c.loop-i.i = c.slot-cell.ensures c.args.from refl in
-    let inside = walk_in c.args.part.now c.args.from c.loop-i.i c.loop-i-test.true in
+    let lt : c.loop-i.i < c.args.part.now.slots = omega (arith, c.loop-i-test.true) in
+    let inside = walk_in c.args.part.now c.args.from c.loop-i.i lt in
     let table : c.loop-i.tx.table ≡ c.args.tx.now.table = ap (λ (a : Attempt _ _). a.table) c.loop-i.invariant.upto.on.sees.is in
     rw table (omega (arith, at, inside.1, c.requires.callable.cells))
 
@@ -28,9 +29,10 @@ returns-in-Err-clause-sees g c =
 
 pub returns-in-Err-clause-stopped : goal.returns-in-Err-clause-stopped
 returns-in-Err-clause-stopped g c =
-    let at : c.slot-cell.result ≡ slot_at c.args.part.now c.args.from c.loop-i.i = c.slot-cell.ensures c.args.from refl in
-    (ap (λ (a : Attempt _ _). a.state) c.in-Err.ensures.stopped.1,
-     sees_stop c.args.part.now c.args.from c.args.wanted c.args.tx.now c.loop-i.i c.loop-i.tx c.read.new.self c.slot-cell.result c.in-Err.stop c.loop-i.invariant at c.loop-i-test.true c.in-Err.ensures.sole c.in-Err.ensures.stopped.0 c.in-Err.ensures.cause)
+    let at : c.slot-cell.result ≡ slot_at c.args.part.now c.args.from c.loop-i.i = c.slot-cell.ensures c.args.from refl in (
+      ap (λ (a : Attempt _ _). a.state) c.in-Err.ensures.stopped.1,
+      sees_stop c.args.part.now c.args.from c.args.wanted c.args.tx.now c.loop-i.i c.loop-i.tx c.read.new.self c.slot-cell.result c.in-Err.stop c.loop-i.invariant at (omega (arith, c.loop-i-test.true)) c.in-Err.ensures.sole c.in-Err.ensures.stopped.0 c.in-Err.ensures.cause,
+    )
 
 pub returns-in-Err-clause-steps : goal.returns-in-Err-clause-steps
 returns-in-Err-clause-steps g c =
@@ -40,7 +42,7 @@ pub loop-i-preserved : goal.loop-i-preserved
 loop-i-preserved g c =
     let at : c.slot-cell.result ≡ slot_at c.args.part.now c.args.from c.loop-i.i = c.slot-cell.ensures c.args.from refl in
     let adds = read_adds c.loop-i.tx c.read.new.self c.slot-cell.result c.in-Ok.field-0 (λ y is. (c.in-Ok.ensures.own y is).1) (λ y none is. (c.in-Ok.ensures.seen_before y none is).1) c.in-Ok.ensures.observes in
-    seeing_more c.args.part.now c.args.from c.args.wanted c.args.tx.now c.loop-i.i c.loop-i.tx c.read.new.self c.slot-cell.result c.in-Ok.field-0 c.loop-i.invariant at c.loop-i-test.true adds c.in-Ok.ensures.looks c.in-Ok.ensures.steps c.in-Ok.ensures.value c.agreed.ensures.seen c.agreed.ensures.one (c.requires.unfit c.loop-i.i c.loop-i-test.true)
+    seeing_more c.args.part.now c.args.from c.args.wanted c.args.tx.now c.loop-i.i c.loop-i.tx c.read.new.self c.slot-cell.result c.in-Ok.field-0 c.loop-i.invariant at (omega (arith, c.loop-i-test.true)) adds c.in-Ok.ensures.looks c.in-Ok.ensures.steps c.in-Ok.ensures.value c.agreed.ensures.seen c.agreed.ensures.one (c.requires.unfit c.loop-i.i (omega (arith, c.loop-i-test.true)))
 
 pub returns-clause-sees : goal.returns-clause-sees
 returns-clause-sees g c = c.loop-i.invariant.upto.on

@@ -20,11 +20,14 @@ try_slot-requires-clause-cell g c =
 pub returns-in-Holds-clause-tells : goal.returns-in-Holds-clause-tells
 returns-in-Holds-clause-tells g c =
     let at : c.slot-cell.result ≡ slot_at c.args.part.now c.args.from c.loop-i.i = c.slot-cell.ensures c.args.from refl in
-    let since = tells_since c.args.wanted c.args.tx.now c.loop-i.tx c.try_slot.new.tx c.slot-cell.result _ (tried.Holds c.in-Holds.word) c.loop-i.invariant.looks c.loop-i.invariant.grew tt c.in-Holds.ensures.tells in
-    (c.loop-i.i, c.loop-i-test.true, at,
-     λ j lt. passed_later c.args.wanted c.args.tx.now c.loop-i.tx.pass c.try_slot.new.tx.pass _ 6 c.in-Holds.ensures.tells.0.pass.grows c.in-Holds.ensures.steps (c.loop-i.invariant.passed j lt),
-     since.0,
-     since.1)
+    let since = tells_since c.args.wanted c.args.tx.now c.loop-i.tx c.try_slot.new.tx c.slot-cell.result _ (tried.Holds c.in-Holds.word) c.loop-i.invariant.looks c.loop-i.invariant.grew tt c.in-Holds.ensures.tells in (
+      c.loop-i.i,
+      c.loop-i-test.true,
+      at,
+      λ j lt. passed_later c.args.wanted c.args.tx.now c.loop-i.tx.pass c.try_slot.new.tx.pass _ 6 c.in-Holds.ensures.tells.0.pass.grows c.in-Holds.ensures.steps (c.loop-i.invariant.passed j lt),
+      since.0,
+      since.1,
+    )
 
 pub returns-in-Memory-clause-tells : goal.returns-in-Memory-clause-tells
 returns-in-Memory-clause-tells g c =

@@ -1,0 +1,6 @@
+use Rattle.std.proofs.Common.{ap, arith}
+use Rattle.cell_table.specs.Pass.{PassState}
+use Rattle.tx_pool.proofs.tests.a_held_slot_stops_a_take_until_it_is_given_back.Goals as goal
+
+pub expect_commit-requires-clause-draws : goal.expect_commit-requires-clause-draws
+expect_commit-requires-clause-draws g c = omega (arith, c.expect_take-2.ensures.draws, ap (λ (p : PassState _ _). p.view.draws) c.in-Ok-begin-2.ensures.pass, c.expect_held-back.ensures.draws)
