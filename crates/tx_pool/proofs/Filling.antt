@@ -1,14 +1,14 @@
 -- What is left of the attempt by a slot that was filled, or by a walk that found none.
-use Rattle.std.proofs.Common.{◌≡◌, ◌≢◌, ℕ, zero, suc, ◌+◌, ◌-◌, ◌%◌, append-nil, ◌<◌, ◌≤◌, List, [], ◌∷◌, ◌++◌, length, get_or, set, Some, None, Option, All, ◌⊎◌, inl, inr, refl, sym, ap, ◌∙◌, subst, arith}
+use Rattle.std.proofs.Common.{◌≡◌, ℕ, ◌+◌, ◌-◌, ◌%◌, append-nil, ◌<◌, ◌≤◌, List, [], ◌∷◌, ◌++◌, length, get_or, set, Some, ◌⊎◌, inl, inr, sym, ap, ◌∙◌, subst, arith}
 use Rattle.std.specs.Option.{option_or}
 use Rattle.std.proofs.Math.Nat.{mod-lt}
 use Rattle.cell_table.specs.Cells.{has, after, AllHold}
-use Rattle.cell_table.specs.Rule.{cells_of, callers_of}
+use Rattle.cell_table.specs.Rule.{cells_of}
 use Rattle.cell_table.specs.Pass.{PassState, IsSole, IsHeld, trail_of}
 use Rattle.attempt_lists.specs.Cells.{Entries, word_at, put}
 use Rattle.tx_core.specs.declared.stop.Stop.{Stop}
 use Rattle.tx_core.specs.declared.stop.TxState.{TxState}
-use Rattle.tx_core.specs.Causes.{IsCaused, IsFound, GrewBy}
+use Rattle.tx_core.specs.Causes.{IsFound, GrewBy}
 use Rattle.tx_core.specs.Parts.{Shows, Explains}
 use Rattle.tx_core.specs.Seen.{HoldsOnly}
 use Rattle.tx_core.specs.Tx.{Attempt}
@@ -16,10 +16,10 @@ use Rattle.tx_core.proofs.Found.{grew_none}
 use Rattle.tx_pool.specs.declared.part.PoolPart.{PoolPart}
 use Rattle.tx_pool.specs.declared.wanted.Wanted.{Wanted}
 use Rattle.tx_pool.specs.Pool.{IsFormed, IsSlot, slot_at}
-use Rattle.tx_pool.specs.Walk.{AreWalked, IsFit, IsUnfit, FoundUnfit, FoundStopped, PassedOver, FirstStop, FillsSlot, SeesSlots, SeesOn, AllKnown, Replaces, HasNone}
-use Rattle.tx_pool.specs.Steps.{NoneHeld, LooksOn, HoldsCell, KnownUnfit, SeesStop}
+use Rattle.tx_pool.specs.Walk.{AreWalked, IsUnfit, FoundUnfit, PassedOver, FirstStop, FillsSlot, SeesSlots, SeesOn, AllKnown, Replaces, HasNone}
+use Rattle.tx_pool.specs.Steps.{LooksOn, HoldsCell, KnownUnfit, SeesStop}
 use Rattle.tx_pool.proofs.Walks.{walk_in, walk_covers}
-use Rattle.tx_pool.proofs.Finding.{unfit_later, unfit_since, passed_later, stopped_since, version_since}
+use Rattle.tx_pool.proofs.Finding.{unfit_later, passed_later, stopped_since, version_since}
 use Rattle.tx_pool.proofs.Trying.{holds_only_trans}
 
 module _ {M D : Type 0} where

@@ -1,21 +1,19 @@
 -- What was found of a slot stays found while the pass goes on.
-use Rattle.std.proofs.Common.{◌≡◌, ℕ, zero, suc, ◌+◌, ◌≤◌, false, List, [], ◌∷◌, ◌++◌, length, length-append, slice_get, Some, None, Option, MatchOption, ◌⊎◌, inl, inr, refl, sym, ap, ◌∙◌, subst, arith}
-use Rattle.cell_table.specs.Cells.{has}
+use Rattle.std.proofs.Common.{◌≡◌, ℕ, zero, suc, ◌≤◌, List, [], ◌∷◌, ◌++◌, length, length-append, slice_get, Some, None, Option, MatchOption, inl, inr, sym, ap, ◌∙◌, subst, arith}
 use Rattle.cell_table.specs.Rule.{callers_of}
 use Rattle.cell_table.specs.declared.view.Event.{Event}
-use Rattle.cell_table.specs.declared.view.View.{View}
 use Rattle.cell_table.specs.Steps.{Grows, Observes}
 use Rattle.cell_table.specs.Pass.{PassState, IsSole, trail_of}
 use Rattle.attempt_lists.specs.Cells.{word_at}
 use Rattle.tx_core.specs.declared.stop.Stop.{Stop}
 use Rattle.tx_core.specs.declared.stop.Stop.TheVariants.{Held, Newer, Memory}
-use Rattle.tx_core.specs.Causes.{FoundSince, CausedSince, IsCausedAt, GrewBy}
+use Rattle.tx_core.specs.Causes.{FoundSince, CausedSince, GrewBy}
 use Rattle.tx_core.specs.Seen.{HoldsOnly}
 use Rattle.tx_core.specs.Tx.{Attempt}
 use Rattle.tx_core.proofs.Looks.{observes_grows}
 use Rattle.tx_core.proofs.Found.{caused_earlier}
 use Rattle.tx_pool.specs.declared.wanted.Wanted.{Wanted}
-use Rattle.tx_pool.specs.Walk.{HasWord, IsUnfit, FoundUnfit, FoundStopped, PassedOver}
+use Rattle.tx_pool.specs.Walk.{HasWord, FoundUnfit, FoundStopped, PassedOver}
 use Rattle.tx_pool.specs.Steps.{LooksOn}
 
 get_first : (t more : List Event) (k : ℕ) (e : Event) → slice_get t k ≡ Some e → slice_get (t ++ more) k ≡ Some e

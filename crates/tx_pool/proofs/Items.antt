@@ -1,8 +1,8 @@
 -- The items of a list of slots, and one slot that is filled or emptied.
-use Rattle.std.proofs.Common.{◌≡◌, ℕ, zero, suc, ◌+◌, ◌<◌, ◌≤◌, List, [], ◌∷◌, ◌++◌, length, get_or, set, refl, sym, ap, ◌∙◌, arith}
+use Rattle.std.proofs.Common.{◌≡◌, ℕ, zero, suc, ◌<◌, ◌≤◌, List, [], ◌∷◌, ◌++◌, length, get_or, set, refl, sym, ap, ◌∙◌, arith}
 use Rattle.std.proofs.lemmas.List.{set-get_or}
 use Rattle.serial_terms.specs.Laws.{PoolsAreCounts}
-use Rattle.serial_terms.specs.Serial.{Pool, pool_of, less, more}
+use Rattle.serial_terms.specs.Serial.{pool_of, less, more}
 use Rattle.tx_pool.specs.Pool.{items_in}
 
 -- a slot with an item, and the same slot empty

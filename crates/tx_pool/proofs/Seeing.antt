@@ -1,5 +1,5 @@
 -- Observing the slots one after another.
-use Rattle.std.proofs.Common.{◌≡◌, ℕ, ◌+◌, ◌*◌, ◌<◌, ◌≤◌, List, [], ◌∷◌, ◌++◌, length, append-nil, append_assoc, Some, None, Option, All, IfOk, ◌⊎◌, inl, inr, refl, sym, ap, ◌∙◌, subst, arith}
+use Rattle.std.proofs.Common.{◌≡◌, ℕ, ◌+◌, ◌*◌, ◌<◌, ◌≤◌, List, [], ◌∷◌, ◌++◌, length, append-nil, append_assoc, Some, None, Option, ◌⊎◌, inl, inr, refl, sym, ap, ◌∙◌, subst, arith}
 use Rattle.std.specs.Option.{option_or}
 use Rattle.std.proofs.lemmas.Bool.{cases_lt}
 use Rattle.std.proofs.lemmas.Bool.Decides.{nat_tests}
@@ -16,10 +16,9 @@ use Rattle.tx_core.specs.Tx.{Attempt, Observed}
 use Rattle.tx_core.proofs.Found.{grew_none, grew_trans, grew_more}
 use Rattle.tx_pool.specs.declared.part.PoolPart.{PoolPart}
 use Rattle.tx_pool.specs.declared.wanted.Wanted.{Wanted}
-use Rattle.tx_pool.specs.Pool.{IsSlot, slot_at}
-use Rattle.tx_pool.specs.Walk.{AreWalked, HasWord, IsUnfit, FoundUnfit, FoundStopped, SeesSlots, SeesOn}
-use Rattle.tx_pool.specs.Steps.{LooksOn, NoneHeld, KnownUnfit, SeesStop}
-use Rattle.tx_pool.proofs.Walks.{walk_in}
+use Rattle.tx_pool.specs.Pool.{slot_at}
+use Rattle.tx_pool.specs.Walk.{AreWalked, IsUnfit, FoundUnfit, FoundStopped, SeesOn}
+use Rattle.tx_pool.specs.Steps.{KnownUnfit, SeesStop}
 use Rattle.tx_pool.proofs.Finding.{stopped_since}
 use Rattle.tx_pool.proofs.Trying.{holds_only_trans, same_word}
 

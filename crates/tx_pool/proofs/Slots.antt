@@ -1,5 +1,5 @@
 -- The words of a pool's slots among all cells.
-use Rattle.std.proofs.Common.{◌≡◌, ℕ, zero, suc, ◌+◌, ◌-◌, ◌<◌, ◌≤◌, List, [], ◌∷◌, ◌⊎◌, inl, inr, ⊎_elim, length, get_or, set, take, drop, refl, sym, ap, ◌∙◌, subst, arith, length-take, length-drop, length-set}
+use Rattle.std.proofs.Common.{◌≡◌, ℕ, ◌+◌, ◌-◌, ◌<◌, ◌≤◌, List, ◌⊎◌, ⊎_elim, length, get_or, set, take, drop, ap, ◌∙◌, subst, arith, length-take, length-drop}
 use Rattle.std.proofs.lemmas.List.{take-set-le, drop-set-lt, drop-set-add, get_or-drop, get_or-take}
 use Rattle.std.proofs.Math.Seq.{take-set-lt}
 use Rattle.tx_pool.specs.declared.part.PoolPart.{PoolPart}

@@ -1,11 +1,11 @@
 -- What a try at one slot leaves of the attempt.
-use Rattle.std.proofs.Common.{◌≡◌, ◌≢◌, ℕ, ◌+◌, ◌-◌, ◌≤◌, true, false, List, [], ◌∷◌, ◌++◌, length, append-nil, Some, None, Option, MatchOption, ◌⊎◌, inl, inr, refl, sym, ap, ◌∙◌, subst, arith}
+use Rattle.std.proofs.Common.{◌≡◌, ℕ, List, [], ◌∷◌, ◌++◌, append-nil, Some, None, Option, MatchOption, ◌⊎◌, inl, inr, refl, sym, ap, ◌∙◌}
 use Rattle.std.specs.Option.{option_or}
 use Rattle.cell_table.specs.Cells.{has}
 use Rattle.cell_table.specs.Rule.{cells_of}
 use Rattle.cell_table.specs.Steps.{Grows, Observes}
 use Rattle.cell_table.specs.Pass.{PassState, IsHeld, trail_of}
-use Rattle.attempt_lists.specs.Cells.{Entries, word_at}
+use Rattle.attempt_lists.specs.Cells.{word_at}
 use Rattle.tx_core.specs.declared.stop.TxState.TheVariants.{Stopped}
 use Rattle.tx_core.specs.Causes.{GrewBy}
 use Rattle.tx_core.specs.Seen.{LooksOnly, HoldsOnly, SameOthers}
@@ -15,7 +15,7 @@ use Rattle.tx_core.proofs.Parts.{known_last}
 use Rattle.tx_pool.specs.declared.wanted.Wanted.{Wanted}
 use Rattle.tx_pool.specs.declared.walk.Tried.{Tried}
 use Rattle.tx_pool.specs.declared.walk.Tried.TheVariants as tried
-use Rattle.tx_pool.specs.Walk.{HasWord, IsFit}
+use Rattle.tx_pool.specs.Walk.{HasWord}
 use Rattle.tx_pool.specs.Steps.{NoneHeld, LooksOn, HoldsCell, Tells, IsNoUnfit}
 use Rattle.tx_pool.proofs.Finding.{word_later, one_word, stopped_since, version_since}
 

@@ -1,5 +1,5 @@
 -- A walk, one slot after another.
-use Rattle.std.proofs.Common.{◌≡◌, ℕ, ◌+◌, ◌*◌, ◌<◌, ◌≤◌, length, Some, None, Option, MatchOption, inl, inr, refl, sym, subst, arith}
+use Rattle.std.proofs.Common.{◌≡◌, ℕ, ◌+◌, ◌*◌, ◌<◌, length, Some, None, Option, MatchOption, inl, inr, refl, sym, subst, arith}
 use Rattle.std.proofs.lemmas.Bool.{cases_lt}
 use Rattle.std.specs.Option.{option_or}
 use Rattle.cell_table.specs.Pass.{trail_of}
@@ -14,7 +14,7 @@ use Rattle.tx_pool.specs.declared.walk.Tried.TheVariants as tried
 use Rattle.tx_pool.specs.declared.walk.Walked.{Walked}
 use Rattle.tx_pool.specs.declared.walk.Walked.TheVariants as walked
 use Rattle.tx_pool.specs.Pool.{slot_at}
-use Rattle.tx_pool.specs.Walk.{FoundUnfit, FoundStopped, PassedOver, FirstStop}
+use Rattle.tx_pool.specs.Walk.{FoundUnfit, FoundStopped, PassedOver}
 use Rattle.tx_pool.specs.Steps.{LooksOn, Tells, WalkTells, UnfitBy}
 use Rattle.tx_pool.proofs.Finding.{unfit_later, stopped_later, passed_later, unfit_since, stopped_since, version_since, passed_since}
 use Rattle.tx_pool.proofs.Trying.{looks_on_trans}

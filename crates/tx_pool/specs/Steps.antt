@@ -1,5 +1,5 @@
 -- What one try at a slot, and a walk, leave of the attempt.
-use Rattle.std.specs.Prelude.{◌≡◌, ℕ, ◌+◌, ◌*◌, ◌<◌, ◌⊎◌, List, [], ◌∷◌, ◌++◌, Some}
+use Rattle.std.specs.Prelude.{◌≡◌, ℕ, ◌*◌, ◌<◌, ◌⊎◌, List, [], ◌∷◌, ◌++◌, Some}
 use Rattle.std.specs.Option.{option_or}
 use Rattle.cell_table.specs.Pass.{IsHeld, trail_of}
 use Rattle.attempt_lists.specs.Cells.{Entries, word_at}

@@ -1,4 +1,4 @@
-use Rattle.std.proofs.Common.{◌≡◌, ap, ◌∙◌, subst, arith}
+use Rattle.std.proofs.Common.{ap, ◌∙◌, subst, arith}
 use Rattle.cell_table.specs.Pass.{IsPassOf}
 use Rattle.tx_core.specs.Tx.{Attempt}
 use Rattle.tx_pool.proofs.tests.expect_held.Goals as goal

@@ -1,5 +1,4 @@
-use Rattle.std.proofs.Common.{◌≡◌, ◌+◌, ◌<◌, Option, Some, None, MatchOption, refl, sym, ap, ◌∙◌, subst, arith}
-use Rattle.cell_table.specs.Pass.{TableState}
+use Rattle.std.proofs.Common.{◌≡◌, refl, ap, ◌∙◌, arith}
 use Rattle.tx_core.specs.Tx.{Attempt}
 use Rattle.tx_pool.specs.declared.walk.Tried.TheVariants as tried
 use Rattle.tx_pool.specs.Pool.{slot_at}
