@@ -1,0 +1,7 @@
+//! A log of values in a part of the cells.
+#![tactic(auto)]
+
+mod laws;
+mod part;
+
+pub use part::LogPart;
