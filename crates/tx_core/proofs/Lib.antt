@@ -6,3 +6,4 @@ pub mod AttemptFacts
 pub mod Giving
 pub mod Locking
 pub mod Checking
+pub mod Parts

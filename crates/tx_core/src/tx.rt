@@ -1,5 +1,5 @@
 //! One attempt.
-ghost use Rattle.std.specs.Prelude.{◌≡◌, ℕ, ◌+◌, ◌-◌, ◌<◌, ◌≤◌, ◌≢◌, ◌↔◌, [], ◌∷◌, ◌++◌, true, false, length, is_some, Some, None, IsSome, IsTrue, IsOk, IfOk, IfErr, OnOk, OnErr, ◌⊎◌};
+ghost use Rattle.std.specs.Prelude.{◌≡◌, ℕ, ◌+◌, ◌-◌, ◌<◌, ◌≤◌, ◌≢◌, ◌↔◌, List, [], ◌∷◌, ◌++◌, true, false, length, slice_set, is_some, Some, None, IsSome, IsTrue, IsOk, IfOk, IfErr, OnOk, OnErr, ◌⊎◌};
 ghost use Rattle.std.specs.Option.{option_or};
 
 use crate::check::check;
@@ -37,18 +37,19 @@ impl<'a, M: Meaning> Model for Tx<'a, M> {
 }
 
 impl<'a, M: Meaning> Tx<'a, M> {
-    ghost use Rattle.cell_table.specs.Cells.{has};
+    ghost use Rattle.cell_table.specs.Cells.{has, after, AllHold};
     ghost use Rattle.cell_table.specs.Rule.{callers_of, cells_of};
     ghost use Rattle.cell_table.specs.declared.view.Event.TheVariants.{ClockLoaded};
     ghost use Rattle.cell_table.specs.declared.view.Stage.TheVariants.{Open, Drawn};
     ghost use Rattle.cell_table.specs.Steps.{IsIdle, Grows, clocked, Observes};
     ghost use Rattle.cell_table.specs.Pass.{IsPassOf, IsSole, IsHeld, trail_of, note};
-    ghost use Rattle.attempt_lists.specs.Cells.{word_at, word_of, cell_at, put};
+    ghost use Rattle.attempt_lists.specs.Cells.{Entries, word_at, word_of, cell_at, put, IsAscending};
     ghost use Rattle.tx_core.specs.declared.stop.Stop.TheVariants.{Held, Newer, Memory};
     ghost use Rattle.tx_core.specs.declared.stop.TxState.TheVariants.{Running, Child, ChildStopped, Stopped};
     ghost use Rattle.tx_core.specs.Causes.{CausedSince, IsOfCell, IsFound, GrewBy};
     ghost use Rattle.tx_core.specs.Seen.{LooksOnly, StandsAt, HoldsOnly, SameOthers};
     ghost use Rattle.tx_core.specs.Tx.{Observed};
+    ghost use Rattle.tx_core.specs.Parts.{Shows};
 
     /// Begins an attempt. Its version is the word of one load of the clock, the only step of the call, after the room for its record is reserved.
     ///
@@ -106,6 +107,19 @@ impl<'a, M: Meaning> Tx<'a, M> {
         !self.writes.is_empty()
     }
 
+    /// What is true of every attempt at any moment: take any list of cells in which all holds that it observed, and lay
+    /// its writes over it. Then a cell that it wrote or observed has its own write, else what it observed. One more write
+    /// sets its cell after the others.
+    pub fn laid_over(&self)
+        ensures ascending { IsAscending self.now.writes }
+        ensures shows { (cell x : ℕ) → option_or (word_at self.now.writes cell) (word_at self.now.observations cell) ≡ Some x → Shows self.now cell x }
+        ensures put { (cells : List ℕ) (cell x : ℕ) → after cells (put self.now.writes cell x) ≡ slice_set (after cells self.now.writes) cell x }
+        ensures sized { (cells : List ℕ) → length (after cells self.now.writes) ≡ length cells }
+        ensures earlier { (cells : List ℕ) (more : Entries) → AllHold cells (self.now.observations ++ more) → AllHold cells self.now.observations }
+    {
+        let _ = self.writes.parent();
+    }
+
     /// What is true of every attempt at any moment: each of its observations stands at its version in the view of its pass.
     pub fn vouched(&self)
         ensures { (i : ℕ) → i < length self.now.observations → Observes self.now.pass.view (cell_at self.now.observations i) (word_of self.now.observations i) self.now.version }
@@ -124,6 +138,7 @@ impl<'a, M: Meaning> Tx<'a, M> {
         ensures own { (x : ℕ) → word_at self.old.writes cell ≡ Some x → (result ≡ Ok x) × (self.new ≡ self.old) }
         ensures seen_before { (x : ℕ) → word_at self.old.writes cell ≡ None → word_at self.old.observations cell ≡ Some x → (result ≡ Ok x) × (self.new ≡ self.old) }
         ensures observes { word_at self.old.writes cell ≡ None → word_at self.old.observations cell ≡ None → IfOk result (λ x. Observed self.old self.new cell x) }
+        ensures value { IfOk result (λ x. option_or (word_at self.new.writes cell) (word_at self.new.observations cell) ≡ Some x) }
         ensures stopped { IfErr result (λ stop. IsOfCell cell stop × (self.new ≡ record self.old { pass = self.new.pass; state = Stopped })) }
         ensures cause { IfErr result (CausedSince (callers_of self.old.pass.view.books) self.old.version (length (trail_of self.old.pass)) (trail_of self.new.pass)) }
         ensures looks { LooksOnly self.old.pass self.new.pass }
@@ -145,6 +160,7 @@ impl<'a, M: Meaning> Tx<'a, M> {
         requires unwritten { word_at self.old.writes cell ≡ None }
         requires unobserved { word_at self.old.observations cell ≡ None }
         ensures observes { IfOk result (λ x. Observed self.old self.new cell x) }
+        ensures value { IfOk result (λ x. option_or (word_at self.new.writes cell) (word_at self.new.observations cell) ≡ Some x) }
         ensures stopped { IfErr result (λ stop. IsOfCell cell stop × (self.new ≡ record self.old { pass = self.new.pass; state = Stopped })) }
         ensures cause { IfErr result (CausedSince (callers_of self.old.pass.view.books) self.old.version (length (trail_of self.old.pass)) (trail_of self.new.pass)) }
         ensures looks { LooksOnly self.old.pass self.new.pass }

@@ -1,10 +1,11 @@
-use Rattle.std.proofs.Common.{◌≡◌, ap, false, None}
+use Rattle.std.proofs.Common.{◌≡◌, [], ◌∷◌, ◌++◌, ap, ◌∙◌, false, None}
 use Rattle.cell_table.specs.Cells.{has}
 use Rattle.cell_table.specs.Rule.{cells_of}
-use Rattle.attempt_lists.specs.Cells.{word_at}
+use Rattle.attempt_lists.specs.Cells.{Entries, word_at}
 use Rattle.tx_core.specs.Tx.{Attempt}
 use Rattle.tx_core.proofs.Looks.{not_both}
 use Rattle.tx_core.proofs.AttemptFacts.{attempt_looks, attempt_observes, attempt_reserves}
+use Rattle.tx_core.proofs.Parts.{known_last}
 use Rattle.tx_core.proofs.tx.Tx.observe.Goals as goal
 
 -- the observation stands at the attempt's version, and its cell isn't held
@@ -21,3 +22,10 @@ pub invariant_of-self-in-Err : goal.invariant_of-self-in-Err
 invariant_of-self-in-Err g c =
     let wide = attempt_reserves _ _ _ _ c.reserve.new.self _ _ _ c.reserve.ensures.observations c.reserve.ensures.versions c.self.invariant in
     attempt_looks _ _ _ c.read_cell.new.pass _ _ _ _ c.in-Err.ensures.looks c.in-Err.ensures.of wide
+
+pub returns-in-Ok-read_cell-clause-value : goal.returns-in-Ok-read_cell-clause-value
+returns-in-Ok-read_cell-clause-value g c =
+    let unobserved : word_at c.self.inside.reads.observations c.args.cell ≡ None = rw (ap (λ (a : Attempt _ _). a.observations) c.self.view_is) c.requires.unobserved in
+    let unwritten : word_at c.self.inside.writes.parent c.args.cell ≡ None = rw (ap (λ (a : Attempt _ _). a.writes) c.self.view_is) c.requires.unwritten in
+    let grown = c.push_reserved.ensures.observations ∙ ap (λ (es : Entries). es ++ (c.args.cell, c.in-Ok-read_cell.value) ∷ []) c.reserve.ensures.observations in
+    known_last _ _ _ _ _ unwritten unobserved grown
