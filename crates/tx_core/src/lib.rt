@@ -4,11 +4,13 @@
 
 mod check;
 mod gives;
+mod resolve_end;
 mod steps;
 mod stop;
 mod tx;
 mod untold;
 
+pub use resolve_end::ResolveEnd;
 pub use stop::{Stop, TxState};
 pub use tx::Tx;
 pub use untold::Untold;

@@ -1,3 +1,4 @@
 pub mod Logs
 pub mod Placing
 pub mod Replies
+pub mod OneRead

@@ -1,6 +1,7 @@
 //! A log of values in a part of the cells.
 #![tactic(auto)]
 
+mod calls;
 mod laws;
 mod part;
 
