@@ -5,3 +5,5 @@ pub mod OneRead
 pub mod Spares
 pub mod Touching
 pub mod ReadAnswers
+pub mod OneHold
+pub mod Placings

@@ -4,5 +4,6 @@
 mod calls;
 mod laws;
 mod part;
+mod resolve;
 
 pub use part::LogPart;
