@@ -7,3 +7,4 @@ pub mod Touching
 pub mod ReadAnswers
 pub mod OneHold
 pub mod Placings
+pub mod ResolveAnswers

@@ -1,5 +1,5 @@
 -- What the lock of one cell in the commit leaves of an attempt, and a write under it.
-use Rattle.std.proofs.Common.{◌≡◌, ◌≢◌, ℕ, eqb, Bool, true, false, List, [], ◌∷◌, ◌++◌, ◌-◌, ◌⊎◌, inl, inr, Some, None, refl, sym, ap, subst, ◌∙◌, arith, append-nil}
+use Rattle.std.proofs.Common.{◌≡◌, ◌≢◌, ℕ, ◌+◌, ◌≤◌, eqb, Bool, true, false, List, [], ◌∷◌, ◌++◌, ◌-◌, ◌⊎◌, inl, inr, Some, None, refl, sym, ap, subst, ◌∙◌, arith, append-nil}
 use Rattle.std.specs.Prelude.{Option, IsSome}
 use Rattle.std.specs.Option.{option_or}
 use Rattle.std.proofs.lemmas.Bool.Decides.{nat_tests}
@@ -11,6 +11,7 @@ use Rattle.attempt_lists.proofs.LaidOver.{word_at-put}
 use Rattle.tx_core.specs.Seen.{SameOthers}
 use Rattle.tx_core.specs.Tx.{Attempt, ObservedLate}
 use Rattle.tx_log.specs.Calls.{TouchesOnly}
+use Rattle.tx_log.specs.Placing.{UsesAtMost}
 
 known_or_not : (w o : Option ℕ) → ((w ≡ None) × (o ≡ None)) ⊎ IsSome (option_or w o)
 known_or_not (Some x) o = inr refl
@@ -28,6 +29,7 @@ module _ {M D : Type 0} where
   -- a call of the commit that took the lock of a cell: what was observed is as before, or one observation of the cell more
   pub record IsLateHold (a b : Attempt M D) (cell : ℕ) : Type 0 where
     pub seen : (b.observations ≡ a.observations) ⊎ ((x : ℕ) × (b.observations ≡ a.observations ++ (cell, x) ∷ []))
+    pub used : UsesAtMost 1 0 a.spare b.spare
     pub is : b ≡ record a { pass = b.pass; observations = b.observations; versions = b.versions; spare = b.spare; committing = true }
 
   -- the attempt a with what a lock may change taken from t
@@ -42,10 +44,10 @@ module _ {M D : Type 0} where
   late_hold_is a b cell x already known new = by (has cell (cells_of a.pass.view.held)) refl
     where
       by : (h : Bool) → has cell (cells_of a.pass.view.held) ≡ h → IsLateHold a b cell
-      by true is = let e = already is in record { seen = inl (ap (λ (t : Attempt M D). t.observations) e); is = e ∙ sym (ap (locked_as a) e) }
+      by true is = let e = already is in let sp : b.spare ≡ a.spare = ap (λ (t : Attempt M D). t.spare) e in record { used = rw sp (record { locks = omega arith; observations = omega arith; writes = omega arith }); seen = inl (ap (λ (t : Attempt M D). t.observations) e); is = e ∙ sym (ap (locked_as a) e) }
       by false is = elim (known_or_not (word_at a.writes cell) (word_at a.observations cell)) [
-        | inl none ↦ let o = new is none.0 none.1 in record { seen = inr (x, ap (λ (t : Attempt M D). t.observations) o.is); is = o.is ∙ sym (ap (locked_as a) o.is) }
-        | inr some ↦ let e = known is some in record { seen = inl (ap (λ (t : Attempt M D). t.observations) e); is = e ∙ sym (ap (locked_as a) e) }
+        | inl none ↦ let o = new is none.0 none.1 in let sp : b.spare ≡ record a.spare { locks = a.spare.locks - 1; observations = a.spare.observations - 1 } = ap (λ (t : Attempt M D). t.spare) o.is in record { used = rw sp (record { locks = omega arith; observations = omega arith; writes = omega arith }); seen = inr (x, ap (λ (t : Attempt M D). t.observations) o.is); is = o.is ∙ sym (ap (locked_as a) o.is) }
+        | inr some ↦ let e = known is some in let sp : b.spare ≡ record a.spare { locks = a.spare.locks - 1 } = ap (λ (t : Attempt M D). t.spare) e in record { used = rw sp (record { locks = omega arith; observations = omega arith; writes = omega arith }); seen = inl (ap (λ (t : Attempt M D). t.observations) e); is = e ∙ sym (ap (locked_as a) e) }
       ]
 
   -- the lock, and then a write of the cell
@@ -57,4 +59,15 @@ module _ {M D : Type 0} where
     ];
     written = λ k off. let apart : cell ≢ k = λ same. off (subst P same of) in ap (λ (w : Entries). word_at w k) writes ∙ put_other b.writes cell x k apart ∙ ap (λ (t : Attempt M D). word_at t.writes k) late.is;
     held = λ k off. let apart : k ≢ cell = λ same. off (subst P (sym same) of) in ap (λ (p : PassState M D). has k (cells_of p.view.held)) pass ∙ others k apart;
+  }
+
+  -- the lock alone
+  pub touches_hold : (P : ℕ → Type 0) (a b : Attempt M D) (cell : ℕ) → P cell → IsLateHold a b cell → SameOthers a.pass b.pass cell → TouchesOnly P a b
+  touches_hold P a b cell of late others = record {
+    observed = elim late.seen [
+      | inl same ↦ ([], same ∙ sym (append-nil a.observations), tt)
+      | inr more ↦ ((cell, more.0) ∷ [], more.1, (of, tt))
+    ];
+    written = λ k off. ap (λ (t : Attempt M D). word_at t.writes k) late.is;
+    held = λ k off. let apart : k ≢ cell = λ same. off (subst P (sym same) of) in others k apart;
   }

@@ -53,7 +53,7 @@ module _ {M D : Type 0} where
       pub same : b ≡ placed_as a b
       pub touches : TouchesOnly (IsFrom log first (length taken)) a b
       pub others : KeepsOthers log.part a.additions b.additions
-      pub used : UsesAtMost (length taken) a.spare b.spare
+      pub used : UsesAtMost (length taken) (length taken) a.spare b.spare
       pub pass : HoldsOnly a.pass b.pass
       pub grew : GrewBy (3 * length taken) (trail_of a.pass) (trail_of b.pass)
 
@@ -109,7 +109,7 @@ module _ {M D : Type 0} where
       → m ≡ record b { additions = m.additions } → waiting log b ≡ v ∷ waiting log m → ChangesOnly b.additions m.additions log.part (waiting log m)
       → ((cells : List ℕ) → after cells d.writes ≡ slice_set (after cells m.writes) (log.end + 1 + place) (v + 1))
       → d ≡ record m { pass = d.pass; state = d.state; observations = d.observations; versions = d.versions; writes = d.writes; spare = d.spare; committing = d.committing }
-      → d.state ≡ m.state → TouchesOnly (λ c. c ≡ log.end + 1 + place) m d → UsesAtMost 1 m.spare d.spare → HoldsOnly m.pass d.pass → GrewBy 3 (trail_of m.pass) (trail_of d.pass)
+      → d.state ≡ m.state → TouchesOnly (λ c. c ≡ log.end + 1 + place) m d → UsesAtMost 1 1 m.spare d.spare → HoldsOnly m.pass d.pass → GrewBy 3 (trail_of m.pass) (trail_of d.pass)
       → IsPlacing log first a d (place + 1)
     placing_step first a b m d place v p took waits changes laid same state touches used pass grew =
         let additions : d.additions ≡ m.additions = ap (λ (s : Attempt M D). s.additions) same in
@@ -136,7 +136,7 @@ module _ {M D : Type 0} where
             others = λ q off. ap (λ (w : List Waiting). waiting_of w q) additions ∙ changes.others q off ∙ p.others.others q off;
             marked = λ q. ap (λ (w : List Waiting). marked_of w q) additions ∙ changes.marked q ∙ p.others.marked q;
           };
-          used = let u : UsesAtMost 1 b.spare d.spare = rw (← sp) used in record { locks = omega (arith, p.used.locks, u.locks, more); observations = omega (arith, p.used.observations, u.observations, more); writes = omega (arith, p.used.writes, u.writes, more) };
+          used = let u : UsesAtMost 1 1 b.spare d.spare = rw (← sp) used in record { locks = omega (arith, p.used.locks, u.locks, more); observations = omega (arith, p.used.observations, u.observations, more); writes = omega (arith, p.used.writes, u.writes, more) };
           pass = holds_only_trans a.pass b.pass d.pass p.pass (rw (← ps) pass);
           grew = grew_more (3 * length p.taken + 3) (3 * length (p.taken ++ v ∷ [])) _ _ (omega (arith, more)) (grew_trans (3 * length p.taken) 3 (trail_of a.pass) (trail_of b.pass) (trail_of d.pass) p.grew (rw (← ps) grew));
         }

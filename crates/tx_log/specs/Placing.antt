@@ -1,15 +1,15 @@
 -- What the placing of a log's additions at the commit says of an attempt.
-use Rattle.std.specs.Prelude.{◌≡◌, ◌≢◌, ℕ, ◌+◌, ◌*◌, ◌<◌, ◌≤◌, true, List, ◌++◌, ◌∷◌, ◌⊎◌, length, Some, None}
+use Rattle.std.specs.Prelude.{◌≡◌, ◌≢◌, ℕ, ◌+◌, ◌*◌, ◌<◌, ◌≤◌, true, List, ◌++◌, ◌∷◌, ◌⊎◌, length, Some, None, IsSome}
 use Rattle.std.specs.Option.{option_or}
 use Rattle.cell_table.specs.declared.view.Event.{Event}
 use Rattle.cell_table.specs.declared.view.Event.TheVariants.{ClockLoaded}
 use Rattle.cell_table.specs.Rule.{callers_of}
 use Rattle.cell_table.specs.Steps.{Grows, Observes}
-use Rattle.cell_table.specs.Pass.{PassState, trail_of}
+use Rattle.cell_table.specs.Pass.{PassState, IsHeld, trail_of}
 use Rattle.attempt_lists.specs.Cells.{word_at, word_of, cell_at}
 use Rattle.attempt_lists.specs.Parts.{Waiting, waiting_of, marked_of}
 use Rattle.tx_core.specs.Tx.{Attempt}
-use Rattle.tx_core.specs.Causes.{CausedSince, FoundTwice, IsFound}
+use Rattle.tx_core.specs.Causes.{CausedSince, FoundTwice}
 use Rattle.tx_core.specs.declared.spare.Spare.{Spare}
 use Rattle.tx_core.specs.declared.stop.Stop.{Stop}
 use Rattle.tx_core.specs.declared.stop.Stop.TheVariants.{Held, Newer, Memory}
@@ -19,11 +19,11 @@ use Rattle.tx_core.specs.declared.resolve_end.ResolveEnd.TheVariants as ends
 use Rattle.tx_log.specs.declared.part.LogPart.{LogPart}
 use Rattle.tx_log.specs.Calls.{MakesOf, waiting}
 
--- at most n places of each kind were used
-pub record UsesAtMost (n : ℕ) (old new : Spare) : Type 0 where
+-- at most n places for locks and n for observations were used, and m for writes
+pub record UsesAtMost (n m : ℕ) (old new : Spare) : Type 0 where
   pub locks : old.locks ≤ new.locks + n
   pub observations : old.observations ≤ new.observations + n
-  pub writes : old.writes ≤ new.writes + n
+  pub writes : old.writes ≤ new.writes + m
 
 -- other parts' additions, and all that is marked, are as before
 pub record KeepsOthers (part : ℕ) (old new : List Waiting) : Type 0 where
@@ -66,10 +66,19 @@ module _ {M D : Type 0} where
   abbrev pub IsPlace : LogPart → Attempt M D → Attempt M D → ℕ → Type 0
   IsPlace log old new c = (c ≡ log.end) ⊎ ((n : ℕ) × FoundLength log old new n × IsFrom log n (length (waiting log old)) c)
 
-  -- a stop of this call, with its cause in the steps of the call: where a cell that wasn't observed before is newer, two versions of it were found
-  pub record IsStopped (old new : Attempt M D) (stop : Stop) : Type 0 where
+  -- the end has the length with all that waited, which is within the capacity, and is held
+  pub record IsExtended (log : LogPart) (old new : Attempt M D) : Type 0 where
+    pub length_there : ℕ
+    pub found : FoundLength log old new length_there
+    pub within : length_there + length (waiting log old) ≤ log.capacity
+    pub written : word_at new.writes log.end ≡ Some (length_there + length (waiting log old))
+    pub held : IsHeld new.pass log.end
+
+  -- A stop at one of these cells or at one that was observed before, with its cause in the steps of this call.
+  -- Where a cell that wasn't observed before is newer, two versions of it were found.
+  pub record IsStopped (log : LogPart) (old new : Attempt M D) (stop : Stop) : Type 0 where
     pub state : new.state ≡ Stopped
-    pub found : IsFound stop
+    pub found : IsFoundIn (λ c. IsPlace log old new c ⊎ IsSome (word_at old.observations c)) stop
     pub cause : CausedSince (callers_of old.pass.view.books) old.version (length (trail_of old.pass)) (trail_of new.pass) stop
     pub twice : IsUnseen old stop → FoundTwice (length (trail_of old.pass)) (trail_of new.pass) stop
 
@@ -87,5 +96,10 @@ module _ {M D : Type 0} where
     pub same : new ≡ record old { pass = new.pass; observations = new.observations; versions = new.versions; spare = new.spare; committing = true }
 
   abbrev pub IsRefused : LogPart → Attempt M D → Attempt M D → ResolveEnd → Type 0
-  IsRefused log old new (ends.Stop stop) = IsStopped old new stop
+  IsRefused log old new (ends.Stop stop) = IsStopped log old new stop
   IsRefused log old new (ends.Full part n more) = (part ≡ log.part) × IsFull log old new n more
+
+-- the part is full, and no stop came
+abbrev pub IsFullEnd : ResolveEnd → Type 0
+IsFullEnd (ends.Stop stop) = ⊥
+IsFullEnd (ends.Full part n more) = Unit {0}
