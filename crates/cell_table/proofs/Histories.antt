@@ -4,7 +4,7 @@ use mathlib.Core.Logic.{dite}
 use native.Mathlib.Decide.{ℕ_discrete}
 use Rattle.cell_table.specs.Cells.{writes_to, written}
 use Rattle.cell_table.specs.declared.view.Record.{Record}
-use Rattle.cell_table.specs.History.{Outcome, unused, pending, decided, upd, touches, left_in, effect, cells_at, value_at, version_at, noted, records_by}
+use Rattle.cell_table.specs.History.{Outcome, unused, pending, decided, upd, touches, left_in, effect, cells_at, value_at, version_at, noted, records_by, IsVersion}
 
 pub bool_cases : (b : Bool) → (b ≡ true) ⊎ (b ≡ false)
 bool_cases true = inl refl
@@ -90,6 +90,12 @@ module _ {D : Type 0} where
   version_grows h c p (suc q) l = dite (ℕ_discrete p (suc q)) (λ e. subst (λ (z : ℕ). version_at h c z ≤ version_at h c (suc q)) (sym e) (omega arith))
       (λ ne. let i = version_grows h c p q (omega arith) in let m = version_le h c p in ⊎_elim (λ t. subst (λ (n : ℕ). version_at h c p ≤ n) (sym (cond_true _ (suc q) _ t)) (omega arith))
       (λ f. subst (λ (n : ℕ). version_at h c p ≤ n) (sym (cond_false _ (suc q) _ f)) i) (bool_cases (touches (h (suc q)) c)))
+
+  -- a version is at most the newest one of every later place
+  pub version_top : (h : ℕ → Outcome D) (c u n : ℕ) → u ≤ n → IsVersion h c u → u ≤ version_at h c n
+  version_top h c zero n l is = omega arith
+  version_top h c (suc u) n l is = let grows = version_grows h c (suc u) n l in ⊎_elim (λ e. absurd (omega arith))
+      (λ t. let here : version_at h c (suc u) ≡ suc u = cond_true _ (suc u) _ t.1 in omega arith) is
 
   -- between the newest version and q the value stays
   pub stays : (x : ℕ) (h : ℕ → Outcome D) (c p q : ℕ) → version_at h c q ≤ p → p ≤ q → (value_at x h c p ≡ value_at x h c q) × (version_at h c p ≡ version_at h c q)

@@ -1,5 +1,5 @@
 -- What follows from the legal history that a view fits.
-use Rattle.std.proofs.Common.{◌≡◌, ℕ, zero, suc, ◌-◌, ◌<◌, Bool, cond, eqb, List, [], ◌∷◌, length, get_or, set, sym, refl, ap, ◌∙◌, subst, arith, eq-eqb, ne_eqb, length-set, get_or-set_other, get_or-set_same}
+use Rattle.std.proofs.Common.{◌≡◌, ℕ, zero, suc, ◌-◌, ◌<◌, Bool, cond, eqb, List, [], ◌∷◌, length, get_or, set, sym, refl, ap, ◌∙◌, subst, arith, Some, eq-eqb, ne_eqb, length-set, get_or-set_other, get_or-set_same}
 use mathlib.Core.Logic.{dite}
 use native.Mathlib.Decide.{ℕ_discrete}
 use Rattle.cell_table.specs.Cells.{written}
@@ -66,10 +66,10 @@ module _ {M D : Type 0} (lawful : M → List ℕ → Type 0) (explains : M → L
 -- What a view observes at one place holds in one lawful list of cells
 module _ {M D : Type 0} (lawful : M → List ℕ → Type 0) (explains : M → List (ℕ × ℕ) → List (ℕ × ℕ) → List D → Type 0)
     (law : (m : M) (cells : List ℕ) (os ws : List (ℕ × ℕ)) (ds : List D) → lawful m cells → AllHold cells os → explains m os ws ds → lawful m (after cells ws)) where
-  pub vouched : (v : View M D) (k : LegalNow lawful explains v) (p : ℕ) → (cells : List ℕ) × lawful k.meaning cells × (length cells ≡ length v.opening) × ((c x : ℕ) → c < length v.opening → Observes v c x p → get_or cells c 0 ≡ x)
-  vouched v k p = (
+  pub vouched : (v : View M D) (k : LegalNow lawful explains v) (m : M) → v.meaning ≡ Some m → (p : ℕ) → (cells : List ℕ) × lawful m cells × (length cells ≡ length v.opening) × ((c x : ℕ) → c < length v.opening → Observes v c x p → get_or cells c 0 ≡ x)
+  vouched v k m is p = let same : Some k.meaning ≡ Some m = sym k.is ∙ is in let one : k.meaning ≡ m = cc in (
     cells_at v.opening k.history p,
-    lawful_at lawful explains law k.meaning v.opening k.history k.lawful_opening k.records p,
+    subst (λ (z : M). lawful z (cells_at v.opening k.history p)) one (lawful_at lawful explains law k.meaning v.opening k.history k.lawful_opening k.records p),
     cells_length v.opening k.history p,
     λ c x l o. (cells_value v.opening k.history c l p).0 ∙ (observes_stands v.opening k.history k.clock v k.values k.validations c x p o).0,
   )

@@ -17,6 +17,7 @@ pub mod Laws
 pub mod Opening
 pub mod Closing
 pub mod Passes
+pub mod Replay
 pub mod Sole
 pub mod HeldList
 pub mod Attempts

@@ -14,9 +14,9 @@ use Rattle.cell_table.specs.declared.view.Stage.TheVariants.{Open, Drawn, Decide
 use Rattle.cell_table.specs.declared.view.OpenRead.{OpenRead}
 use Rattle.cell_table.specs.declared.view.OpenRead.TheVariants.{NoRead, LockRead, ValueRead}
 use Rattle.cell_table.specs.declared.entry.HeldCell.{HeldCell}
-use Rattle.cell_table.specs.Steps.{Triples, add_validation, validate_all, validate_open, add_read, add_kept, add_held, clocked, free_look, held_look, looked, valued, taken, missed, drawn, first_put, next_put, given, Observes, Reads, Validated, HeldStand, Grows, MayDecide, IsWord}
+use Rattle.cell_table.specs.Steps.{Triples, add_validation, validate_all, validate_open, add_read, add_kept, add_held, clocked, free_look, held_look, looked, valued, taken, missed, drawn, first_put, next_put, given, Observes, Reads, Validated, HeldStand, Grows, MayDecide, FoundFree, IsWord}
 use Rattle.cell_table.specs.Legal.{LegalNow}
-use Rattle.cell_table.specs.Pass.{PassState, TableState}
+use Rattle.cell_table.specs.Pass.{PassState, TableState, trail_of}
 use Rattle.cell_table.specs.IsPass.{IsPass, IsReader, IsPlanned, AreWritten}
 use Rattle.cell_table.specs.Seats.{Tied}
 use Rattle.cell_table.proofs.Histories.{bool_cases}
@@ -38,7 +38,7 @@ among_kept t (h ∷ hs) c x vs a = let i = among_kept t hs c x vs a in let P : B
 even_half : (r u : ℕ) → r ≡ 2 * u → (r % 2 ≡ 0) × (r / 2 ≡ u)
 even_half r u e = (omega arith, omega arith)
 
-added_validation : (c u known : ℕ) (ss : Triples) → u ≤ known → Among (c, u, known) (add_validation c u known ss)
+pub added_validation : (c u known : ℕ) (ss : Triples) → u ≤ known → Among (c, u, known) (add_validation c u known ss)
 added_validation c u known ss l = subst (λ (b : Bool). Among (c, u, known) (cond b ((c, u, known) ∷ ss) ss)) (sym (le-leb u known l)) (inl refl)
 
 module _ {D : Type 0} where
@@ -209,6 +209,15 @@ module _ {M D : Type 0} where
   look_still v c r u e l = by_parity (λ w. Validated w c u v.known) v c r
       (λ y. subst (λ (z : ℕ). Among (c, u, v.known) (add_validation c z v.known v.validations)) (sym (even_half r u e).1) (added_validation c u v.known v.validations l))
       (λ n. absurd (n (even_half r u e).0))
+
+  pub missed_still : (v : View M D) (c r u : ℕ) → r ≡ 2 * u → u ≤ v.known → Validated (missed v c r) c u v.known
+  missed_still v c r u e l = subst (λ (b : Bool). Among (c, u, v.known) (cond b (add_validation c (r / 2) v.known v.validations) v.validations)) (sym (eq-eqb (r % 2) 0 (even_half r u e).0))
+      (subst (λ (z : ℕ). Among (c, u, v.known) (add_validation c z v.known v.validations)) (sym (even_half r u e).1) (added_validation c u v.known v.validations l))
+
+  -- no version of the trail is above a free word that is found
+  pub never_falls : (p q : PassState M D) (c r : ℕ) → p ≡ q → IsWord p.view c r → (u w : ℕ) → r ≡ 2 * u → FoundFree (trail_of q) c w → w ≤ u
+  never_falls p q c r e word u w even = subst (λ (z : PassState M D). FoundFree (trail_of z) c w → w ≤ u) e
+      (λ found. ⊎_elim (λ t. let free = t.1 in let low = t.3 w found in omega arith) (λ t. let odd = t.1 in absurd (omega arith)) word)
 
   pub looked_first : (w v : View M D) (c r u : ℕ) → w ≡ looked v c r → r ≡ 2 * u → w.reading ≡ LockRead c u
   looked_first w v c r u e is = ap (λ (z : View M D). z.reading) e ∙ look_first v c r u is

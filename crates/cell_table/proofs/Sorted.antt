@@ -1,5 +1,6 @@
 -- Lists in ascending order.
-use Rattle.std.proofs.Common.{◌≢◌, ℕ, suc, ◌<◌, Bool, cond, ltb, List, [], ◌∷◌, ◌++◌, inl, inr, ⊎_elim, sym, subst, arith}
+use Rattle.std.proofs.Common.{◌≡◌, ◌≢◌, ℕ, zero, suc, ◌<◌, Bool, cond, ltb, List, [], ◌∷◌, ◌++◌, reverse, slice_get, Some, inl, inr, ⊎_elim, sym, subst, arith}
+use Rattle.std.proofs.lemmas.Grind.{reverse_onto}
 use Rattle.std.proofs.lemmas.Bool.Decides.{leb_tells}
 use Rattle.cell_table.specs.Sorted.{Each, Among, insert_by, merge_by, IsAscendingBy}
 use Rattle.cell_table.proofs.Histories.{bool_cases}
@@ -16,6 +17,15 @@ module _ {A : Type 0} where
   pub each_append : (P : A → Type 0) (xs ys : List A) → Each P xs → Each P ys → Each P (xs ++ ys)
   each_append P [] ys e f = f
   each_append P (x ∷ xs) ys e f = (e.0, each_append P xs ys e.1 f)
+
+  pub each_reverse : (P : A → Type 0) (xs : List A) → Each P xs → Each P (reverse xs)
+  each_reverse P [] e = tt
+  each_reverse P (x ∷ xs) e = subst (Each P) (sym (reverse_onto xs x [])) (each_append P (reverse xs) (x ∷ []) (each_reverse P xs e.1) (e.0, tt))
+
+  pub each_at : (P : A → Type 0) (xs : List A) (k : ℕ) (x : A) → Each P xs → slice_get xs k ≡ Some x → P x
+  each_at P [] k x e is = absurd (cc)
+  each_at P (y ∷ ys) zero x e is = let same : y ≡ x = cc in subst P same e.0
+  each_at P (y ∷ ys) (suc k) x e is = each_at P ys k x e.1 is
 
   pub each_among : (P : A → Type 0) (t : A) (ts : List A) → Among t ts → Each P ts → P t
   each_among P t [] h e = absurd h

@@ -1,5 +1,5 @@
 -- What the rule says of a view and of a lock word.
-use Rattle.std.proofs.Common.{◌≡◌, ℕ, zero, suc, ◌+◌, ◌*◌, ◌^◌, ◌<◌, ◌≤◌, Bool, true, false, cond, eqb, leb, List, [], ◌∷◌, length, get_or, set, inl, inr, ⊎_elim, sym, refl, ap, ◌∙◌, subst, arith, eq-eqb, ne_eqb, length-set}
+use Rattle.std.proofs.Common.{◌≡◌, ℕ, zero, suc, ◌+◌, ◌*◌, ◌^◌, ◌<◌, ◌≤◌, Bool, true, false, cond, eqb, leb, List, [], ◌∷◌, length, reverse, get_or, set, inl, inr, ⊎_elim, sym, refl, ap, ◌∙◌, subst, arith, eq-eqb, ne_eqb, length-set}
 use mathlib.Core.Logic.{dite}
 use mathlib.Core.Option.{some}
 use native.Mathlib.Decide.{ℕ_discrete, dec_le}
@@ -12,15 +12,17 @@ use Rattle.cell_table.specs.Cells.{has}
 use Rattle.cell_table.specs.History.{Outcome, unused, decided, touches, value_at, version_at, Unheld, IsVersion, IsValue, IsNewest}
 use Rattle.cell_table.specs.declared.view.Record.{Record}
 use Rattle.cell_table.specs.declared.view.Book.{Book}
+use Rattle.cell_table.specs.declared.view.Event.{Event}
+use Rattle.cell_table.specs.declared.view.Event.TheVariants.{LockLoaded, LockExchanged}
 use Rattle.cell_table.specs.declared.view.View.{View}
 use Rattle.cell_table.specs.declared.view.Stage.TheVariants.{Open, Drawn}
 use Rattle.cell_table.specs.declared.view.OpenRead.{OpenRead}
 use Rattle.cell_table.specs.declared.view.OpenRead.TheVariants.{NoRead, LockRead, ValueRead}
-use Rattle.cell_table.specs.Rule.{clock_of, lock_of, cells_of, actor, callers_of, newest, value_now, IsClean, FitsStage, FitsRead, Fits, draws_left, IsRecord, Rule}
-use Rattle.cell_table.specs.Steps.{Triples, add_validation, add_read, IsWord}
+use Rattle.cell_table.specs.Rule.{clock_of, lock_of, cells_of, actor, callers_of, newest, value_now, IsClean, FitsStage, FitsRead, FitsEvent, Fits, draws_left, IsRecord, Rule}
+use Rattle.cell_table.specs.Steps.{Triples, add_validation, add_read, FoundFree, IsWord}
 use Rattle.cell_table.specs.Legal.{LegalNow}
-use Rattle.cell_table.proofs.Histories.{bool_cases, version_le, stays}
-use Rattle.cell_table.proofs.Sorted.{each_map, each_both}
+use Rattle.cell_table.proofs.Histories.{bool_cases, version_le, version_top, stays}
+use Rattle.cell_table.proofs.Sorted.{each_map, each_both, each_reverse, each_at}
 use Rattle.cell_table.proofs.HeldCells.{each_has}
 use Rattle.cell_table.proofs.Guarantee.{seats_stay}
 
@@ -45,6 +47,12 @@ module _ {D : Type 0} where
   pub in_callers : (P : ℕ → Type 0) (k : ℕ) (bs : List (Book D)) → has k (callers_of bs) ≡ true → Each (λ b. P b.caller) bs → P k
   in_callers P k [] h e = absurd (cc)
   in_callers P k (b ∷ bs) h e = dite (ℕ_discrete b.caller k) (λ is. subst P is e.0) (λ n. in_callers P k bs (sym (ap (λ (z : Bool). cond z true (has k (callers_of bs))) (ne_eqb b.caller k n)) ∙ h) e.1)
+
+-- a version that was found free is at most the newest one
+found_low : {D : Type 0} (h : ℕ → Outcome D) (n c w : ℕ) (trail : List Event) → Each (FitsEvent h n) trail → FoundFree (reverse trail) c w → w ≤ version_at h c n
+found_low h n c w trail f found = let fits : Each (FitsEvent h n) (reverse trail) = each_reverse (FitsEvent h n) trail f in
+    let top : (w ≤ n) × IsVersion h c w = ⊎_elim (λ e. each_at (FitsEvent h n) (reverse trail) found.0 (LockLoaded c (2 * w)) fits e w refl) (λ e. each_at (FitsEvent h n) (reverse trail) found.0 (LockExchanged c (2 * w)) fits e w refl) found.1 in
+    version_top h c w n top.0 top.1
 
 -- the newest version is one
 pub version_is : {D : Type 0} (h : ℕ → Outcome D) (c p : ℕ) → IsVersion h c (version_at h c p)
@@ -160,7 +168,12 @@ module _ {M D : Type 0} (lawful : M → List ℕ → Type 0) (explains : M → L
   pub word_is : (s : S) (r : R s) (id c : ℕ) (v : V) → get_elem? s.views id ≡ some v → 0 < length v.books → c < length opening → IsWord v c (lock_of s.words c)
   word_is s r id c v at acting inside = let f = r.views id v at in let own = acts v.books v.total id total r.owner _ acting f.books in let tot = (f.same acting).2 in let k : ℕ = actor v.books v.total in
       let held_by : has c (cells_of v.held) ≡ true → lock_of s.words c ≡ 2 * k + 1 = λ h. let a = each_has _ c v.held h f.locks in subst (λ (z : ℕ). lock_of s.words z ≡ 2 * k + 1) a.1 a.2 in ⊎_elim
-      (λ t. let even = t.1 in inl (t.0, t.1, ⊎_elim (λ y. let odd = held_by y in absurd (omega arith)) (λ n. n) (bool_cases (has c (cells_of v.held)))))
+      (λ t. let even = t.1 in inl (
+        t.0,
+        t.1,
+        ⊎_elim (λ y. let odd = held_by y in absurd (omega arith)) (λ n. n) (bool_cases (has c (cells_of v.held))),
+        λ w found. let e = (clean s r c t.0 inside t.1).0 in let low = found_low r.history (clock_of s.words) c w v.trail f.trail found in omega arith,
+      ))
       (λ t. let odd = t.1 in let small = t.2 in inr (
         t.0,
         t.1,

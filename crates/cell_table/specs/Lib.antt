@@ -7,5 +7,6 @@ pub mod Legal
 pub mod Told
 pub mod Pass
 pub mod IsPass
+pub mod Writers
 pub mod Settled
 pub mod Seats

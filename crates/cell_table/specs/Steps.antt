@@ -1,9 +1,10 @@
 -- What each step makes of the view of the seat that steps.
-use Rattle.std.specs.Prelude.{◌≡◌, ℕ, zero, suc, ◌+◌, ◌-◌, ◌*◌, ◌/◌, ◌%◌, ◌<◌, ◌≤◌, true, false, cond, eqb, leb, max, ◌⊎◌, List, [], ◌∷◌, ◌++◌, length, Some, None, Result, Ok, Err}
+use Rattle.std.specs.Prelude.{◌≡◌, ℕ, zero, suc, ◌+◌, ◌-◌, ◌*◌, ◌/◌, ◌%◌, ◌<◌, ◌≤◌, true, false, cond, eqb, leb, max, ◌⊎◌, List, [], ◌∷◌, ◌++◌, length, reverse, slice_get, Some, None, Result, Ok, Err}
 use Rattle.cell_table.specs.Sorted.{Each, Among, insert_by, merge_by}
 use Rattle.cell_table.specs.Cells.{writes_to, has, Leaves}
 use Rattle.cell_table.specs.declared.view.Record.{Record}
 use Rattle.cell_table.specs.declared.view.Book.{Book}
+use Rattle.cell_table.specs.declared.view.Event.{Event}
 use Rattle.cell_table.specs.declared.view.Event.TheVariants.{ClockLoaded, LockLoaded, ValueLoaded, LockExchanged, VersionDrawn, ValueStored, LockStored, SeatMoved}
 use Rattle.cell_table.specs.declared.view.View.{View}
 use Rattle.cell_table.specs.declared.view.Stage.{Stage}
@@ -108,6 +109,10 @@ MayStore c x held Open = ⊥
 MayStore c x held (Drawn u) = ⊥
 MayStore c x held (Decided u r stored) = (has c (cells_of held) ≡ true) × Leaves r.writes c x
 
+-- a step of the trail found the lock of the cell free, at the version w
+abbrev pub FoundFree : List Event → ℕ → ℕ → Type 0
+FoundFree trail c w = (k : ℕ) × ((slice_get trail k ≡ Some (LockLoaded c (2 * w))) ⊎ (slice_get trail k ≡ Some (LockExchanged c (2 * w))))
+
 module _ {M D : Type 0} where
   abbrev pub clocked : View M D → ℕ → View M D
   clocked v r = record v { known = r; validations = validate_open v.stage v.held r v.validations; trail = ClockLoaded r ∷ v.trail }
@@ -190,10 +195,10 @@ module _ {M D : Type 0} where
     pub values : (t : ℕ × ℕ × ℕ) → Among t v.values → Among t w.values
     pub validations : (t : ℕ × ℕ × ℕ) → Among t v.validations → Among t w.validations
 
-  -- A word that the lock of c can have: twice a version, or twice a caller number plus 1.
+  -- A word that the lock of c can have: twice a version, which isn't below one that the trail already has for this cell, or twice a caller number plus 1.
   -- Of the caller numbers of this view only the acting one ever holds a cell, and exactly those that the view lists.
   abbrev pub IsWord : View M D → ℕ → ℕ → Type 0
-  IsWord v c r = ((u : ℕ) × (r ≡ 2 * u) × (has c (cells_of v.held) ≡ false))
+  IsWord v c r = ((u : ℕ) × (r ≡ 2 * u) × (has c (cells_of v.held) ≡ false) × ((w : ℕ) → FoundFree (reverse v.trail) c w → w ≤ u))
       ⊎ ((k : ℕ) × (r ≡ 2 * k + 1) × (k < v.total) × (has c (cells_of v.held) ≡ true → k ≡ actor v.books v.total) × (has k (callers_of v.books) ≡ true → (k ≡ actor v.books v.total) × (has c (cells_of v.held) ≡ true)))
 
 module _ {M D : Type 0} (explains : M → List (ℕ × ℕ) → List (ℕ × ℕ) → List D → Type 0) where

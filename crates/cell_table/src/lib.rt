@@ -5,6 +5,7 @@ mod books;
 mod close;
 mod entry;
 mod held;
+mod knows;
 mod meaning;
 mod open;
 mod pass;

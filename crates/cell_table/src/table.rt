@@ -27,7 +27,7 @@ pub struct CellTable<M: Meaning> {
 }
 
 impl<M: Meaning> Model for CellTable<M> {
-    ghost use Rattle.std.specs.Prelude.{◌≡◌, ◌+◌, ◌*◌, length};
+    ghost use Rattle.std.specs.Prelude.{◌≡◌, ◌+◌, ◌*◌, ◌^◌, ◌<◌, ◌≤◌, length};
     ghost use Rattle.cell_table.specs.Rule.{values_in};
     ghost use Rattle.cell_table.specs.Pass.{TableState};
 
@@ -35,7 +35,7 @@ impl<M: Meaning> Model for CellTable<M> {
 
     ghost view = { λ t. record { id = t.words.shared.table_id; meaning = t.meaning; opening = values_in t.words.shared.key.words.value.items; callers = t.callers } };
 
-    ghost invariant = { λ t. (t.words.shared.table_id.words ≡ 2 * length (values_in t.words.shared.key.words.value.items) + 1) × (t.words.shared.table_id.slots ≡ 0) × (t.words.shared.key.meaning.value ≡ t.meaning) × (t.words.shared.key.callers ≡ t.callers) };
+    ghost invariant = { λ t. (t.words.shared.table_id.words ≡ 2 * length (values_in t.words.shared.key.words.value.items) + 1) × (t.words.shared.table_id.slots ≡ 0) × (t.words.shared.key.meaning.value ≡ t.meaning) × (t.words.shared.key.callers ≡ t.callers) × (0 < t.callers) × (t.callers ≤ 4096) × (0 < length (values_in t.words.shared.key.words.value.items)) × (length (values_in t.words.shared.key.words.value.items) ≤ 2 ^ 24) };
 }
 
 impl<M: Meaning> CellTable<M> {
@@ -45,10 +45,11 @@ impl<M: Meaning> CellTable<M> {
     ghost use Rattle.cell_table.specs.declared.view.Stage.TheVariants.{Open, Drawn};
     ghost use Rattle.cell_table.specs.declared.view.OpenRead.TheVariants.{LockRead, ValueRead};
     ghost use Rattle.cell_table.specs.Rule.{cells_of};
-    ghost use Rattle.cell_table.specs.Steps.{clocked, looked, valued, taken, missed, drawn, due, first_put, next_put, word_found, IsUndecided, MayStore, MayDecide, IsWord, HeldStand, Reads, Validated, Observes, IsStoredOrUndecided};
+    ghost use Rattle.cell_table.specs.Steps.{clocked, looked, valued, taken, missed, drawn, due, first_put, next_put, word_found, IsUndecided, MayStore, MayDecide, FoundFree, IsWord, HeldStand, Reads, Validated, Observes, IsStoredOrUndecided};
     ghost use Rattle.cell_table.specs.Steps.{AllHeld};
     ghost use Rattle.cell_table.specs.Legal.{LegalNow};
     ghost use Rattle.cell_table.specs.Seats.{record_of};
+    ghost use Rattle.cell_table.specs.Writers.{writers_in, newest_in};
     ghost use Rattle.cell_table.specs.Pass.{IsPassOf, IsHeld, IsSole, MayPut, with_view, after_put, after_give, trail_of};
 
     /// A load of the clock. The word is at least every place that the pass knows.
@@ -78,7 +79,11 @@ impl<M: Meaning> CellTable<M> {
 
         // The version is the newest one up to every place that the pass knows.
         ensures still { (u : ℕ) → result ≡ 2 * u → u ≤ pass.old.view.known → Validated pass.new.view cell u pass.old.view.known }
-        ensures sole { IsSole pass.old → has cell (cells_of pass.old.view.held) ≡ false → (result % 2 ≡ 0) × (result ≤ 2 * pass.old.seen) }
+        // No version that the trail has for this cell is above the one that is found now.
+        ensures never_falls { (u w : ℕ) → result ≡ 2 * u → FoundFree (trail_of pass.old) cell w → w ≤ u }
+
+        // A pass with every caller number finds the version of the last writer in its own books.
+        ensures sole { IsSole pass.old → has cell (cells_of pass.old.view.held) ≡ false → (result % 2 ≡ 0) × (result ≤ 2 * pass.old.seen) × (result ≡ 2 * newest_in (writers_in pass.old.books) cell) }
     {
         self.words
             .shared
@@ -113,6 +118,10 @@ impl<M: Meaning> CellTable<M> {
         ensures taken { OnOk result ((pass.new ≡ record pass.old { view = taken pass.old.view cell (from / 2); places = pass.old.places - 1 }) × (has cell (cells_of pass.old.view.held) ≡ false)) }
         ensures found { IfErr result (λ found. (found ≢ from) × (pass.new ≡ with_view pass.old (missed pass.old.view cell found)) × IsWord pass.old.view cell found) }
         ensures step { trail_of pass.new ≡ trail_of pass.old ++ LockExchanged cell (word_found from result) ∷ [] }
+        ensures never_falls { (u w : ℕ) → word_found from result ≡ 2 * u → FoundFree (trail_of pass.old) cell w → w ≤ u }
+
+        // So a pass with every caller number never fails where `from` is the word of the last writer in its own books.
+        ensures sole { IsSole pass.old → has cell (cells_of pass.old.view.held) ≡ false → (word_found from result ≤ 2 * pass.old.seen) × (word_found from result ≡ 2 * newest_in (writers_in pass.old.books) cell) }
     {
         let mine = 2 * pass.caller() as u64 + 1;
         let found = self

@@ -1,5 +1,5 @@
 //! One attempt.
-ghost use Rattle.std.specs.Prelude.{◌≡◌, ℕ, ◌+◌, ◌-◌, ◌<◌, ◌≤◌, ◌≢◌, ◌↔◌, List, [], ◌∷◌, ◌++◌, true, false, length, slice_set, is_some, Some, None, IsSome, IsTrue, IsOk, IfOk, IfErr, OnOk, OnErr, ◌⊎◌};
+ghost use Rattle.std.specs.Prelude.{◌≡◌, ℕ, ◌+◌, ◌-◌, ◌^◌, ◌<◌, ◌≤◌, ◌≢◌, ◌↔◌, List, [], ◌∷◌, ◌++◌, true, false, length, slice_set, is_some, Some, None, IsSome, IsTrue, IsOk, IfOk, IfErr, OnOk, OnErr, ◌⊎◌};
 ghost use Rattle.std.specs.Option.{option_or};
 
 use crate::check::check;
@@ -118,6 +118,13 @@ impl<'a, M: Meaning> Tx<'a, M> {
         ensures earlier { (cells : List ℕ) (more : Entries) → AllHold cells (self.now.observations ++ more) → AllHold cells self.now.observations }
     {
         let _ = self.writes.parent();
+    }
+
+    /// The table of every attempt has 1 to 2^24 cells.
+    pub fn limits(&self)
+        ensures { (0 < length self.now.table.opening) × (length self.now.table.opening ≤ 2 ^ 24) }
+    {
+        self.table.limits();
     }
 
     /// What is true of every attempt at any moment: each of its observations stands at its version in the view of its pass.

@@ -1,7 +1,7 @@
 use Rattle.std.proofs.Common.{arith, ◌≡◌, ◌∙◌}
 use Rattle.cell_table.specs.Steps.{looked, IsWord}
 use Rattle.cell_table.proofs.LockLoad.{looks}
-use Rattle.cell_table.proofs.Passes.{grows_looked, pass_by, tied_by, same_table, cell_inside, looked_first, looked_read, looked_still, looked_books, at_lock, look_of, look_word}
+use Rattle.cell_table.proofs.Passes.{grows_looked, pass_by, tied_by, same_table, cell_inside, looked_first, looked_read, looked_still, looked_books, at_lock, look_of, look_word, never_falls}
 use Rattle.cell_table.proofs.Sole.{looked_sole}
 use Rattle.cell_table.proofs.table.CellTable.look_lock.Goals as goal
 
@@ -40,3 +40,6 @@ returns-clause-still g c = λ u e l. looked_still _ _ _ c.args.cell c.load.resul
 
 pub returns-clause-sole : goal.returns-clause-sole
 returns-clause-sole g c = looked_sole g.M.Meaning.lawful g.M.Meaning.explains _ _ c.load.new.seat.me.0 c.args.cell c.load.result c.pass.view_is (at_lock (λ z. c.load.new.seat.me.0 ≡ looked c.pass.inside.seat.me.0 z c.load.result) c.args.cell c.load.ensures.2.0) c.load.ensures.2.2 c.pass.invariant.0 (at_lock (λ z. IsWord c.pass.inside.seat.me.0 z c.load.result) c.args.cell c.load.ensures.2.1)
+
+pub returns-clause-never_falls : goal.returns-clause-never_falls
+returns-clause-never_falls g c = never_falls _ _ c.args.cell c.load.result c.pass.view_is (at_lock (λ z. IsWord c.pass.inside.seat.me.0 z c.load.result) c.args.cell c.load.ensures.2.1)

@@ -1,4 +1,4 @@
-use Rattle.std.proofs.Common.{arith, ap, ◌∙◌, refl, List, ℕ, Vec, Global, length}
+use Rattle.std.proofs.Common.{arith, ap, sym, subst, ◌∙◌, ◌<◌, ◌≤◌, ◌^◌, refl, List, ℕ, Vec, Global, length}
 use Rattle.atomic_table.specs.Table.{Me}
 use Rattle.cell_table.specs.Rule.{values_in, first_view}
 use Rattle.cell_table.specs.declared.view.View.{View}
@@ -17,6 +17,10 @@ invariant_of-table g c = let f = c.in_ok-words-2.ensures in let k = ap (λ (z : 
   f.1,
   ap (λ (z : About g.row.M.Denot). z.meaning.value) f.5 ∙ c.of.ensures,
   ap (λ (z : About g.row.M.Denot). z.callers) f.5,
+  c.requires.callers.0,
+  c.requires.callers.1,
+  subst (λ (z : List ℕ). 0 < length z) (sym k) c.requires.cells.0,
+  subst (λ (z : List ℕ). length z ≤ 2 ^ 24) (sym k) c.requires.cells.1,
 )
 
 pub invariant_of-pass : goal.invariant_of-pass
