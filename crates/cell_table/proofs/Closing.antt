@@ -7,7 +7,8 @@ use lib.ListN.{get_elem?}
 use Rattle.atomic_table.specs.Table.{State}
 use Rattle.cell_table.specs.Sorted.{Each}
 use Rattle.cell_table.specs.Cells.{has}
-use Rattle.cell_table.specs.History.{Outcome, value_at}
+use Rattle.cell_table.specs.History.{Outcome, decided, value_at, version_at, records_by}
+use Rattle.cell_table.specs.declared.view.Record.{Record}
 use Rattle.cell_table.specs.declared.view.Book.{Book}
 use Rattle.cell_table.specs.declared.view.View.{View}
 use Rattle.cell_table.specs.Rule.{clock_of, lock_of, word_of, callers_of, newest, value_now, IsAscending, Rule}
@@ -21,6 +22,7 @@ use Rattle.cell_table.specs.declared.view.NotedBook.{NotedBook}
 use Rattle.cell_table.specs.Steps.{IsIdle}
 use Rattle.cell_table.specs.Pass.{PassState, IsSole}
 use Rattle.cell_table.specs.IsPass.{IsPass, writer_books}
+use Rattle.cell_table.specs.Writers.{in_order, writers_in, up_to, replay, newest_in}
 use Rattle.cell_table.specs.Settled.{Words, Settled}
 use Rattle.cell_table.proofs.Sorted.{each_map, each_both}
 use Rattle.cell_table.proofs.HeldCells.{has_first, has_later}
@@ -28,6 +30,7 @@ use Rattle.cell_table.proofs.Views.{legal, draw_bound, in_callers}
 use Rattle.cell_table.proofs.ValueStore.{observes_stands}
 use Rattle.cell_table.proofs.SeatMove.{idle_mine}
 use Rattle.cell_table.proofs.Laws.{cells_value, cells_length, lawful_at}
+use Rattle.cell_table.proofs.Replay.{tells_cells, left_cells, left_versions}
 
 same_list : (xs ys : List ℕ) → length xs ≡ length ys → ((c : ℕ) → c < length xs → get_or xs c 0 ≡ get_or ys c 0) → xs ≡ ys
 same_list [] [] l e = refl
@@ -99,7 +102,14 @@ module _ {M D : Type 0} (lawful : M → List ℕ → Type 0) (explains : M → L
       let free : (c : ℕ) → c < length opening → (lock_of s.words c ≡ 2 * newest opening g s.words c) × (word_of s.words c ≡ value_now opening g s.words c) = λ c l. ⊎_elim
       (λ t. let a = t.1 in let b = t.2.0 in (omega arith, t.2.1)) (λ t. idle_mine m opening total r.owner g s.words id v idle f _ t.0 c (mine t.0 t.2) t.1) (r.cells c l) in
       let hold : (c x q : ℕ) → c < length v.opening → Observes v c x q → (c < length (cells_at v.opening g q)) × (get_or (cells_at v.opening g q) c 0 ≡ x) = λ c x q l o. let z = cells_length v.opening g q in
-      (omega arith, (cells_value v.opening g c l q).0 ∙ (observes_stands v.opening g n v k.values k.validations c x q o).0) in record {
+      (omega arith, (cells_value v.opening g c l q).0 ∙ (observes_stands v.opening g n v k.values k.validations c x q o).0) in
+      let own : Each (λ b. b.records ≡ records_by b.caller g n) v.books = each_map _ _ (λ b x. x.1) v.books k.books in
+      let told : (u j : ℕ) (t : Record D) → g u ≡ decided j t → (u ≤ n) × (has j (callers_of v.books) ≡ true) = λ u j t e. let a = k.callers u j t e in (a.0, every j a.1) in
+      let noted : writers_in p.books ≡ in_order v.books = ap in_order pass.books in
+      let values : w.values ≡ cells_at v.opening g n = vals ∙ same_list (values_in s.words) (cells_at v.opening g n) (let a = values_length s.words (length opening) wide in let b = cells_length v.opening g n in omega arith)
+      (λ c l. let a = values_length s.words (length opening) wide in let inside : c < length opening = omega arith in value_among s.words c ∙ ((free c inside).1
+      ∙ (ap (λ (o : List ℕ). value_at (get_or o c 0) g c n) (sym same.1) ∙ sym (cells_value v.opening g c (omega arith) n).0))) in
+      let versions : (c : ℕ) → c < length v.opening → get_or w.versions c 0 ≡ version_at g c n = λ c l. let inside : c < length opening = omega arith in let e = version_among s.words (length opening) c wide in let lock = (free c inside).0 in ap (λ (z : List ℕ). get_or z c 0) vers ∙ (e ∙ (omega arith)) in record {
         meaning = m;
         history = g;
         clock = n;
@@ -118,10 +128,11 @@ module _ {M D : Type 0} (lawful : M → List ℕ → Type 0) (explains : M → L
           each_map _ _ (λ o z. hold o.0 o.1 e.place z.0 z.1) e.content.observations a.3,
         )) b.entries x) p.books pass.readers;
         observed = λ c x q l o. (hold c x q l o).1;
-        values = vals ∙ same_list (values_in s.words) (cells_at v.opening g n) (let a = values_length s.words (length opening) wide in let b = cells_length v.opening g n in omega arith)
-            (λ c l. let a = values_length s.words (length opening) wide in let inside : c < length opening = omega arith in value_among s.words c ∙ ((free c inside).1
-            ∙ (ap (λ (o : List ℕ). value_at (get_or o c 0) g c n) (sym same.1) ∙ sym (cells_value v.opening g c (omega arith) n).0)));
-        versions = λ c l. let inside : c < length opening = omega arith in let e = version_among s.words (length opening) c wide in let lock = (free c inside).0 in ap (λ (z : List ℕ). get_or z c 0) vers ∙ (e ∙ (omega arith));
+        values = values;
+        versions = versions;
+        replayed = λ q. sym (ap (λ (z : List (ℕ × Record D)). replay v.opening (up_to q z)) noted ∙ tells_cells g n v.books k.order own told v.opening q);
+        values_left = values ∙ sym (ap (replay v.opening) noted ∙ left_cells g n v.books k.order own told v.opening);
+        versions_left = λ c l. versions c l ∙ sym (ap (λ (z : List (ℕ × Record D)). newest_in z c) noted ∙ left_versions g n v.books k.order own told c);
       }
 
   -- at the close

@@ -169,10 +169,20 @@ module _ {D : Type 0} where
   chronicle_late h n e (suc q) l = dite (ℕ_discrete n (suc q)) (λ is. ap (chronicle h) (sym is))
       (λ ne. ap (λ (z : List (ℕ × Record D)). chronicle h q ++ z) (one_none (suc q) (h (suc q)) (λ k r is. let low = e (suc q) k r is in omega arith)) ∙ (append-nil (chronicle h q) ∙ chronicle_late h n e q (omega arith)))
 
+  in_order_tells : (h : ℕ → Outcome D) (n : ℕ) (bs : List (Book D)) → IsAscending bs → Each (λ b. b.records ≡ records_by b.caller h n) bs → ((w k : ℕ) (r : Record D) → h w ≡ decided k r → (w ≤ n) × (has k (callers_of bs) ≡ true)) → in_order bs ≡ chronicle h n
+  in_order_tells h n bs o books every = in_order_is h n bs books ∙ ordered_is h bs o (λ w k r e. (every w k r e).1) n
+
   -- what has a number of each decided record has the whole history
   pub tells_all : (h : ℕ → Outcome D) (n : ℕ) (bs : List (Book D)) → IsAscending bs → Each (λ b. b.records ≡ records_by b.caller h n) bs → ((w k : ℕ) (r : Record D) → h w ≡ decided k r → (w ≤ n) × (has k (callers_of bs) ≡ true)) → (q : ℕ) → up_to q (in_order bs) ≡ chronicle h q
-  tells_all h n bs o books every q = ap (up_to q) (in_order_is h n bs books ∙ ordered_is h bs o (λ w k r e. (every w k r e).1) n) ∙ dite (dec_le q n) (λ l. up_to_earlier h q n l)
+  tells_all h n bs o books every q = ap (up_to q) (in_order_tells h n bs o books every) ∙ dite (dec_le q n) (λ l. up_to_earlier h q n l)
       (λ no. up_to_all q (chronicle h n) (each_map _ _ (λ t l. omega arith) (chronicle h n) (chronicle_low h n)) ∙ sym (chronicle_late h n (λ w k r e. (every w k r e).0) q (omega arith)))
+
+  -- what all the records left
+  pub left_cells : (h : ℕ → Outcome D) (n : ℕ) (bs : List (Book D)) → IsAscending bs → Each (λ b. b.records ≡ records_by b.caller h n) bs → ((w k : ℕ) (r : Record D) → h w ≡ decided k r → (w ≤ n) × (has k (callers_of bs) ≡ true)) → (o : List ℕ) → replay o (in_order bs) ≡ cells_at o h n
+  left_cells h n bs a books every o = ap (replay o) (in_order_tells h n bs a books every) ∙ replay_is o h n
+
+  pub left_versions : (h : ℕ → Outcome D) (n : ℕ) (bs : List (Book D)) → IsAscending bs → Each (λ b. b.records ≡ records_by b.caller h n) bs → ((w k : ℕ) (r : Record D) → h w ≡ decided k r → (w ≤ n) × (has k (callers_of bs) ≡ true)) → (c : ℕ) → newest_in (in_order bs) c ≡ version_at h c n
+  left_versions h n bs a books every c = ap (λ (z : List (ℕ × Record D)). newest_in z c) (in_order_tells h n bs a books every) ∙ newest_is h c n
 
   pub tells_cells : (h : ℕ → Outcome D) (n : ℕ) (bs : List (Book D)) → IsAscending bs → Each (λ b. b.records ≡ records_by b.caller h n) bs → ((w k : ℕ) (r : Record D) → h w ≡ decided k r → (w ≤ n) × (has k (callers_of bs) ≡ true)) → (o : List ℕ) (q : ℕ) → replay o (up_to q (in_order bs)) ≡ cells_at o h q
   tells_cells h n bs a books every o q = ap (replay o) (tells_all h n bs a books every q) ∙ replay_is o h q

@@ -7,6 +7,7 @@ use Rattle.cell_table.specs.declared.view.Record.{Record}
 use Rattle.cell_table.specs.Rule.{callers_of}
 use Rattle.cell_table.specs.Steps.{Observes}
 use Rattle.cell_table.specs.Pass.{PassState}
+use Rattle.cell_table.specs.Writers.{writers_in, up_to, replay, newest_in}
 
 -- the values and the versions of the cells
 pub record Words : Type 0 where
@@ -38,3 +39,7 @@ module _ {M D : Type 0} (lawful : M → List ℕ → Type 0) (explains : M → L
     pub observed : (c x q : ℕ) → c < length p.view.opening → Observes p.view c x q → slice_index (cells_at p.view.opening history q) c ≡ x
     pub values : w.values ≡ cells_at p.view.opening history clock
     pub versions : (c : ℕ) → c < length p.view.opening → slice_index w.versions c ≡ version_at history c clock
+    -- the same by the books alone
+    pub replayed : (q : ℕ) → cells_at p.view.opening history q ≡ replay p.view.opening (up_to q (writers_in p.books))
+    pub values_left : w.values ≡ replay p.view.opening (writers_in p.books)
+    pub versions_left : (c : ℕ) → c < length p.view.opening → slice_index w.versions c ≡ newest_in (writers_in p.books) c

@@ -1,21 +1,23 @@
 -- What keeps the facts of an attempt.
-use Rattle.std.proofs.Common.{◌≡◌, ◌≢◌, ℕ, zero, suc, ◌+◌, ◌<◌, ◌≤◌, eqb, Bool, true, false, List, [], ◌∷◌, ◌++◌, length, slice_index, if◌then◌else◌, Some, None, ◌⊎◌, inl, inr, refl, sym, ap, ◌∙◌, arith}
+use Rattle.std.proofs.Common.{◌≡◌, ◌≢◌, ℕ, zero, suc, ◌+◌, ◌<◌, ◌≤◌, eqb, Bool, true, false, List, [], ◌∷◌, ◌++◌, length, slice_index, is_some, All, subst, if◌then◌else◌, Some, None, ◌⊎◌, inl, inr, refl, sym, ap, ◌∙◌, arith}
 use Rattle.std.proofs.lemmas.Bool.Decides.{nat_tests}
 use Rattle.std.proofs.lemmas.List.{length_push}
 use Rattle.std.proofs.lemmas.Map.Views.{All-keys-insert_entry}
+use Rattle.std.proofs.Math.Decide.{ℕ_discrete}
+use Rattle.std.specs.Map.{keys_of}
 use Rattle.std.specs.Ordering.{nat_cmp}
 use Rattle.cell_table.specs.Cells.{has}
 use Rattle.cell_table.specs.Sorted.{Among}
 use Rattle.cell_table.specs.Rule.{cells_of}
 use Rattle.cell_table.specs.declared.view.View.{View}
-use Rattle.cell_table.specs.Steps.{drawn}
+use Rattle.cell_table.specs.Steps.{Grows, drawn}
 use Rattle.cell_table.specs.Pass.{TableState, PassState, IsPassOf, with_view}
 use Rattle.attempt_lists.specs.Cells.{Entries, Listed, word_at, word_of, cell_at, put}
 use Rattle.attempt_lists.specs.Levels.{Levels}
 use Rattle.attempt_lists.specs.Observed.{Observed}
-use Rattle.tx_core.specs.Seen.{LooksOnly, StandsAt}
+use Rattle.tx_core.specs.Seen.{LooksOnly, KnowsMore, IsSeen}
 use Rattle.tx_core.specs.Tx.{IsAttempt}
-use Rattle.tx_core.proofs.Looks.{stands_grows, drawn_grows}
+use Rattle.tx_core.proofs.Looks.{seen_grows, drawn_grows}
 
 -- an entry of a list with one more at its end is an old one or the new one
 pub cell_at-push : (es : Entries) (e : ℕ × ℕ) (i : ℕ) → i < length (es ++ e ∷ []) → ((i < length es) × (cell_at (es ++ e ∷ []) i ≡ cell_at es i) × (word_of (es ++ e ∷ []) i ≡ word_of es i)) ⊎ ((i ≡ length es) × (cell_at (es ++ e ∷ []) i ≡ e.0) × (word_of (es ++ e ∷ []) i ≡ e.1))
@@ -39,43 +41,57 @@ word_at-push (e ∷ es) cell word q none =
     let rest = word_at-push es cell word q (grind (arith, nat_tests, none)) in
     (grind (arith, nat_tests, none, rest.0), rest.1)
 
+-- what holds of all cells of the list holds of one in it
+pub in_keys : (P : ℕ → Type 0) (es : Entries) (c : ℕ) → All P (keys_of es) → is_some (word_at es c) ≡ true → P c
+in_keys P [] c all some = cc
+in_keys P (e ∷ es) c all some = elim (ℕ_discrete e.0 c) [
+  | yes same ↦ subst P same (all 0 0 (omega arith))
+  | no away ↦ in_keys P es c (λ k d lt. all (suc k) d (omega arith)) (grind (arith, nat_tests, away, some))
+]
+
 module _ {M D : Type 0} (table : TableState M) (version : ℕ) where
+  -- the view knows more, and the attempt holds what it held
+  pub attempt_moves : (p q : PassState M D) (reads : Observed) (writes : Levels) (held : Listed) (committing : Bool) → Grows p.view q.view → q.view.held ≡ p.view.held → q.view.stage ≡ p.view.stage → (q.seen ≤ version) × (version ≤ q.view.known) → q.reserved ≡ p.reserved → IsPassOf table q → IsAttempt table p version reads writes held committing → IsAttempt table q version reads writes held committing
+  attempt_moves p q reads writes held committing grows kept stage begun reserved of a = record {
+    of = of;
+    few = a.few;
+    begun = begun;
+    observed = λ i lt. seen_grows p.view q.view version _ _ _ grows (λ h. rw kept h) (a.observed i lt);
+    written = a.written;
+    no_child = a.no_child;
+    holds = λ c. rw kept (a.holds c);
+    in_table = a.in_table;
+    sized = a.sized;
+    met = λ c r w. rw kept (a.met c r w);
+    pinned = λ i lt h. rw kept (a.pinned i lt (rw (← kept) h));
+    undecided = rw stage a.undecided;
+    undrawn = λ none. stage ∙ a.undrawn (sym kept ∙ none);
+    nothing_drawn = λ before. stage ∙ a.nothing_drawn before;
+    early = a.early;
+    reserved = rw reserved a.reserved;
+  }
+
+  -- a load of the clock, and loads of words after it
+  pub attempt_knows : (p q : PassState M D) (reads : Observed) (writes : Levels) (held : Listed) (committing : Bool) → KnowsMore p q → IsPassOf table q → IsAttempt table p version reads writes held committing → IsAttempt table q version reads writes held committing
+  attempt_knows p q reads writes held committing knows of a =
+      let seen : q.seen ≡ p.seen = ap (λ (s : PassState M D). s.seen) knows.is in
+      attempt_moves p q reads writes held committing knows.grows knows.held knows.stage (rw seen a.begun.0, omega (arith, a.begun.1, knows.grows.known)) (ap (λ (s : PassState M D). s.reserved) knows.is) of a
+
   -- loads of words
   pub attempt_looks : (p q : PassState M D) (reads : Observed) (writes : Levels) (held : Listed) (committing : Bool) → LooksOnly p q → IsPassOf table q → IsAttempt table p version reads writes held committing → IsAttempt table q version reads writes held committing
   attempt_looks p q reads writes held committing looks of a =
       let seen : q.seen ≡ p.seen = ap (λ (s : PassState M D). s.seen) looks.0 in
-      let places : q.places ≡ p.places = ap (λ (s : PassState M D). s.places) looks.0 in
-      let reserved : q.reserved ≡ p.reserved = ap (λ (s : PassState M D). s.reserved) looks.0 in
-      let kept : q.view.held ≡ p.view.held = looks.1.held in
-      let stage : q.view.stage ≡ p.view.stage = looks.1.stage in
-      record {
-        of = of;
-        few = a.few;
-        begun = (rw seen a.begun.0, rw (looks.1.known) a.begun.1);
-        observed = λ i lt. stands_grows p.view q.view version _ _ _ looks.1.grows (a.observed i lt);
-        written = a.written;
-        no_child = a.no_child;
-        holds = λ c. rw kept (a.holds c);
-        in_table = a.in_table;
-        sized = a.sized;
-        met = λ c r w. rw kept (a.met c r w);
-        pinned = λ i lt h. rw kept (a.pinned i lt (rw (← kept) h));
-        undecided = rw stage a.undecided;
-        undrawn = λ none. stage ∙ a.undrawn (sym kept ∙ none);
-        reserved = rw reserved a.reserved;
-        locks = rw places a.locks;
-        room = a.room;
-      }
+      attempt_moves p q reads writes held committing looks.1.grows looks.1.held looks.1.stage (rw (seen, looks.1.known) a.begun) (ap (λ (s : PassState M D). s.reserved) looks.0) of a
 
   -- one more observation, of a cell that isn't held or has the version that was observed
-  pub attempt_observes : (p : PassState M D) (reads more : Observed) (writes : Levels) (held : Listed) (committing : Bool) (cell x u : ℕ) → IsAttempt table p version reads writes held committing → more.observations ≡ reads.observations ++ (cell, x) ∷ [] → more.versions ≡ reads.versions ++ u ∷ [] → StandsAt p.view version cell x u → (has cell (cells_of p.view.held) ≡ true → Among (cell, u) p.view.held) → IsAttempt table p version more writes held committing
-  attempt_observes p reads more writes held committing cell x u a observations versions stands pin = record {
+  pub attempt_observes : (p : PassState M D) (reads more : Observed) (writes : Levels) (held : Listed) (committing : Bool) (cell x u : ℕ) → IsAttempt table p version reads writes held committing → more.observations ≡ reads.observations ++ (cell, x) ∷ [] → more.versions ≡ reads.versions ++ u ∷ [] → IsSeen p.view version cell x u → (committing ≡ false → u ≤ version) → (has cell (cells_of p.view.held) ≡ true → Among (cell, u) p.view.held) → IsAttempt table p version more writes held committing
+  attempt_observes p reads more writes held committing cell x u a observations versions seen low pin = record {
     of = a.of;
     few = a.few;
     begun = a.begun;
     observed = λ i lt. elim (cell_at-push reads.observations (cell, x) i (rw observations at lt)) [
       | inl old ↦ rw (observations, versions, old.1, old.2, (number_at-push reads.versions u i).0 (omega (arith, old.0, a.sized))) (a.observed i old.0)
-      | inr new ↦ rw (observations, versions, new.1, new.2, (number_at-push reads.versions u i).1 (omega (arith, new.0, a.sized))) stands
+      | inr new ↦ rw (observations, versions, new.1, new.2, (number_at-push reads.versions u i).1 (omega (arith, new.0, a.sized))) seen
     ];
     written = a.written;
     no_child = a.no_child;
@@ -89,9 +105,12 @@ module _ {M D : Type 0} (table : TableState M) (version : ℕ) where
     ];
     undecided = a.undecided;
     undrawn = a.undrawn;
+    nothing_drawn = a.nothing_drawn;
+    early = λ before i lt. elim (cell_at-push reads.observations (cell, x) i (rw observations at lt)) [
+      | inl old ↦ rw (versions, (number_at-push reads.versions u i).0 (omega (arith, old.0, a.sized))) (a.early before i old.0)
+      | inr new ↦ rw (versions, (number_at-push reads.versions u i).1 (omega (arith, new.0, a.sized))) (low before)
+    ];
     reserved = a.reserved;
-    locks = a.locks;
-    room = a.room;
   }
 
   -- room for more observations
@@ -110,40 +129,59 @@ module _ {M D : Type 0} (table : TableState M) (version : ℕ) where
     pinned = λ i lt h. rw (observations, versions) (a.pinned i (rw observations at lt) (rw observations at h));
     undecided = a.undecided;
     undrawn = a.undrawn;
+    nothing_drawn = a.nothing_drawn;
+    early = λ before i lt. rw versions (a.early before i (rw observations at lt));
     reserved = a.reserved;
-    locks = a.locks;
-    room = a.room;
   }
 
-  -- one more write, with room for its lock
-  pub attempt_writes : (p q : PassState M D) (reads : Observed) (writes more : Levels) (held wide : Listed) (committing : Bool) (cell x : ℕ) → IsAttempt table p version reads writes held committing → cell < length table.opening → more.parent ≡ put writes.parent cell x → more.child ≡ [] → ((c : ℕ) → word_at more.parent c ≡ (if eqb cell c then Some x else word_at writes.parent c)) → length more.parent ≤ length writes.parent + 1 → q ≡ record p { places = q.places } → wide.entries ≡ held.entries → wide.reserved ≡ held.reserved + 1 → wide.reserved ≤ q.places → IsAttempt table q version reads more wide committing
-  attempt_writes p q reads writes more held wide committing cell x a there parent child words len same entries room locks =
-      let view : q.view ≡ p.view = ap (λ (s : PassState M D). s.view) same in
-      record {
-        of = rw (view, ap (λ (s : PassState M D). s.table) same) a.of;
-        few = a.few;
-        begun = (rw (ap (λ (s : PassState M D). s.seen) same) a.begun.0, rw view a.begun.1);
-        observed = λ i lt. rw view (a.observed i lt);
-        written = rw parent (All-keys-insert_entry nat_cmp cell x (λ c. c < length table.opening) writes.parent a.written there);
-        no_child = child;
-        holds = λ c. rw (view, entries) (a.holds c);
-        in_table = rw entries a.in_table;
-        sized = a.sized;
-        met = λ c r w. rw view (a.met c r (unwritten c (sym (words c) ∙ w)));
-        pinned = λ i lt h. rw view (a.pinned i lt (rw view at h));
-        undecided = rw view a.undecided;
-        undrawn = λ none. ap (λ (v : View M D). v.stage) view ∙ a.undrawn (sym (ap (λ (v : View M D). v.held) view) ∙ none);
-        reserved = rw (ap (λ (s : PassState M D). s.reserved) same) a.reserved;
-        locks = locks;
-        room = λ before. omega (arith, len, room, a.room before);
-      }
+  -- room for more writes
+  pub attempt_rooms : (p : PassState M D) (reads : Observed) (writes more : Levels) (held : Listed) (committing : Bool) → more.parent ≡ writes.parent → more.child ≡ writes.child → IsAttempt table p version reads writes held committing → IsAttempt table p version reads more held committing
+  attempt_rooms p reads writes more held committing parent child a = record {
+    of = a.of;
+    few = a.few;
+    begun = a.begun;
+    observed = a.observed;
+    written = rw parent a.written;
+    no_child = child ∙ a.no_child;
+    holds = a.holds;
+    in_table = a.in_table;
+    sized = a.sized;
+    met = λ c r w. a.met c r (rw (← parent) w);
+    pinned = a.pinned;
+    undecided = a.undecided;
+    undrawn = a.undrawn;
+    nothing_drawn = a.nothing_drawn;
+    early = a.early;
+    reserved = a.reserved;
+  }
+
+  -- one more write
+  pub attempt_writes : (p : PassState M D) (reads : Observed) (writes more : Levels) (held : Listed) (committing : Bool) (cell x : ℕ) → IsAttempt table p version reads writes held committing → cell < length table.opening → more.parent ≡ put writes.parent cell x → more.child ≡ [] → ((c : ℕ) → word_at more.parent c ≡ (if eqb cell c then Some x else word_at writes.parent c)) → IsAttempt table p version reads more held committing
+  attempt_writes p reads writes more held committing cell x a there parent child words = record {
+    of = a.of;
+    few = a.few;
+    begun = a.begun;
+    observed = a.observed;
+    written = rw parent (All-keys-insert_entry nat_cmp cell x (λ c. c < length table.opening) writes.parent a.written there);
+    no_child = child;
+    holds = a.holds;
+    in_table = a.in_table;
+    sized = a.sized;
+    met = λ c r w. a.met c r (unwritten c (sym (words c) ∙ w));
+    pinned = a.pinned;
+    undecided = a.undecided;
+    undrawn = a.undrawn;
+    nothing_drawn = a.nothing_drawn;
+    early = a.early;
+    reserved = a.reserved;
+  }
     where
       unwritten : (c : ℕ) → (if eqb cell c then Some x else word_at writes.parent c) ≡ None → word_at writes.parent c ≡ None
       unwritten c e = grind (arith, nat_tests, e)
 
   -- more room for locks
-  pub attempt_widens : (p q : PassState M D) (reads : Observed) (writes : Levels) (held wide : Listed) (committing : Bool) → IsAttempt table p version reads writes held committing → q ≡ record p { places = q.places } → wide.entries ≡ held.entries → held.reserved ≤ wide.reserved → wide.reserved ≤ q.places → IsAttempt table q version reads writes wide committing
-  attempt_widens p q reads writes held wide committing a same entries more locks =
+  pub attempt_widens : (p q : PassState M D) (reads : Observed) (writes : Levels) (held wide : Listed) (committing : Bool) → IsAttempt table p version reads writes held committing → q ≡ record p { places = q.places } → wide.entries ≡ held.entries → IsAttempt table q version reads writes wide committing
+  attempt_widens p q reads writes held wide committing a same entries =
       let view : q.view ≡ p.view = ap (λ (s : PassState M D). s.view) same in
       record {
         of = rw (view, ap (λ (s : PassState M D). s.table) same) a.of;
@@ -159,32 +197,33 @@ module _ {M D : Type 0} (table : TableState M) (version : ℕ) where
         pinned = λ i lt h. rw view (a.pinned i lt (rw view at h));
         undecided = rw view a.undecided;
         undrawn = λ none. ap (λ (v : View M D). v.stage) view ∙ a.undrawn (sym (ap (λ (v : View M D). v.held) view) ∙ none);
+        nothing_drawn = λ before. ap (λ (v : View M D). v.stage) view ∙ a.nothing_drawn before;
+        early = a.early;
         reserved = rw (ap (λ (s : PassState M D). s.reserved) same) a.reserved;
-        locks = locks;
-        room = λ before. omega (arith, more, a.room before);
       }
 
   -- a version is drawn
   pub attempt_draws : (p q : PassState M D) (reads : Observed) (writes : Levels) (held : Listed) (d : ℕ) → IsAttempt table p version reads writes held true → q ≡ with_view p (drawn p.view d) → IsPassOf table q → p.view.known < d → p.view.held ≢ [] → IsAttempt table q version reads writes held true
   attempt_draws p q reads writes held d a is of later some =
       let view : q.view ≡ drawn p.view d = ap (λ (s : PassState M D). s.view) is in
+      let kept : q.view.held ≡ p.view.held = ap (λ (v : View M D). v.held) view in
       record {
         of = of;
         few = a.few;
         begun = (rw (ap (λ (s : PassState M D). s.seen) is) a.begun.0, rw (ap (λ (v : View M D). v.known) view) (omega (arith, a.begun.1)));
-        observed = λ i lt. stands_grows p.view q.view version _ _ _ (rw view (drawn_grows p.view d later)) (a.observed i lt);
+        observed = λ i lt. seen_grows p.view q.view version _ _ _ (rw view (drawn_grows p.view d later)) (λ h. rw kept h) (a.observed i lt);
         written = a.written;
         no_child = a.no_child;
-        holds = λ c. rw (ap (λ (v : View M D). v.held) view) (a.holds c);
+        holds = λ c. rw kept (a.holds c);
         in_table = a.in_table;
         sized = a.sized;
-        met = λ c r w. rw (ap (λ (v : View M D). v.held) view) (a.met c r w);
-        pinned = λ i lt h. rw (ap (λ (v : View M D). v.held) view) (a.pinned i lt (rw (ap (λ (v : View M D). v.held) view) at h));
+        met = λ c r w. rw kept (a.met c r w);
+        pinned = λ i lt h. rw kept (a.pinned i lt (rw kept at h));
         undecided = rw (ap (λ (v : View M D). v.stage) view) tt;
-        undrawn = λ none. absurd (some (sym (ap (λ (v : View M D). v.held) view) ∙ none));
+        undrawn = λ none. absurd (some (sym kept ∙ none));
+        nothing_drawn = λ before. absurd (true_false before);
+        early = λ before. absurd (true_false before);
         reserved = rw (ap (λ (s : PassState M D). s.reserved) is) a.reserved;
-        locks = rw (ap (λ (s : PassState M D). s.places) is) a.locks;
-        room = λ before. absurd (true_false before);
       }
     where
       true_false : true ≡ false → ⊥
@@ -206,9 +245,9 @@ module _ {M D : Type 0} (table : TableState M) (version : ℕ) where
     pinned = a.pinned;
     undecided = a.undecided;
     undrawn = a.undrawn;
+    nothing_drawn = λ before. absurd (true_false before);
+    early = λ before. absurd (true_false before);
     reserved = a.reserved;
-    locks = a.locks;
-    room = λ before. absurd (true_false before);
   }
     where
       true_false : true ≡ false → ⊥

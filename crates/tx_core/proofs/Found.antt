@@ -1,10 +1,10 @@
 -- What the trail found.
-use Rattle.std.proofs.Common.{◌≡◌, ℕ, ◌+◌, ◌≤◌, List, [], ◌∷◌, ◌++◌, length, slice_get, Some, inl, inr, refl, sym, ap, ◌∙◌, append_assoc, append-nil, length-append, arith}
+use Rattle.std.proofs.Common.{◌≡◌, ℕ, zero, suc, ◌+◌, ◌≤◌, List, [], ◌∷◌, ◌++◌, length, slice_get, Some, None, inl, inr, refl, sym, ap, ◌∙◌, append_assoc, append-nil, length-append, arith}
 use Rattle.cell_table.specs.declared.view.Event.{Event}
 use Rattle.cell_table.specs.declared.view.Event.TheVariants.{LockLoaded, LockExchanged}
 use Rattle.tx_core.specs.declared.stop.Stop.{Stop}
 use Rattle.tx_core.specs.declared.stop.Stop.TheVariants.{Held, Newer, Memory}
-use Rattle.tx_core.specs.Causes.{FoundSince, CausedSince, IsFoundAt, IsFound, GrewBy}
+use Rattle.tx_core.specs.Causes.{FoundSince, FoundTwice, CausedSince, IsFoundAt, IsFound, GrewBy}
 
 slice_get_end : (xs : List Event) (e : Event) (n : ℕ) → n ≤ length xs → (k : ℕ) × (n ≤ k) × (slice_get (xs ++ e ∷ []) k ≡ Some e)
 slice_get_end xs e n le = (length xs, le, at xs)
@@ -23,6 +23,22 @@ pub found_by_exchange : (n : ℕ) (old new : List Event) (c w : ℕ) → n ≤ l
 found_by_exchange n old new c w le is =
     let at = slice_get_end old (LockExchanged c w) n le in
     rw is (at.0, at.1, inr at.2)
+
+-- what was found is found in a longer trail, and since any earlier place
+slice_get_longer : (xs ys : List Event) (e : Event) (k : ℕ) → slice_get xs k ≡ Some e → slice_get (xs ++ ys) k ≡ Some e
+slice_get_longer [] ys e k is = absurd (none is)
+  where
+    none : None ≡ Some e → ⊥
+    none is = cc
+slice_get_longer (x ∷ xs) ys e zero is = is
+slice_get_longer (x ∷ xs) ys e (suc k) is = slice_get_longer xs ys e k is
+
+pub found_longer : (n : ℕ) (old more : List Event) (c w : ℕ) → FoundSince n old c w → FoundSince n (old ++ more) c w
+found_longer n old more c w (k, le, inl is) = (k, le, inl (slice_get_longer old more _ k is))
+found_longer n old more c w (k, le, inr is) = (k, le, inr (slice_get_longer old more _ k is))
+
+pub since_start : (n : ℕ) (trail : List Event) (c w : ℕ) → FoundSince n trail c w → FoundSince 0 trail c w
+since_start n trail c w found = (found.0, omega arith, found.2)
 
 pub grew_none : (t : List Event) → GrewBy 0 t t
 grew_none t = ([], sym append-nil_t, omega arith)
@@ -52,3 +68,14 @@ pub found_from_at : (cell : ℕ) (stop : Stop) → IsFoundAt cell stop → IsFou
 found_from_at cell (Held c k) h = tt
 found_from_at cell (Newer c f) h = tt
 found_from_at cell Memory h = absurd h
+
+pub twice_earlier : (n m : ℕ) (trail : List Event) (stop : Stop) → n ≤ m → FoundTwice m trail stop → FoundTwice n trail stop
+twice_earlier n m trail (Held c k) le h = tt
+twice_earlier n m trail (Newer c f) le h = (h.0, h.1, (h.2.0, omega (arith, h.2.1), h.2.2))
+twice_earlier n m trail Memory le h = tt
+
+-- a stop is found at one cell
+pub found_at_one : (c d : ℕ) (stop : Stop) → IsFoundAt c stop → IsFoundAt d stop → c ≡ d
+found_at_one c d (Held e k) a b = sym a ∙ b
+found_at_one c d (Newer e f) a b = sym a ∙ b
+found_at_one c d Memory a b = absurd a

@@ -1,5 +1,6 @@
 -- Giving held cells back one by one.
-use Rattle.std.proofs.Common.{◌≡◌, ℕ, zero, suc, ◌+◌, ◌<◌, ◌≤◌, eqb, Bool, true, false, cond, List, [], ◌∷◌, ◌++◌, length, is_some, if◌then◌else◌, None, All, refl, sym, ap, ◌∙◌, append_assoc, append-nil, arith}
+use Rattle.std.proofs.Math.Decide.{ℕ_discrete}
+use Rattle.std.proofs.Common.{◌≡◌, ◌≢◌, ℕ, zero, suc, ◌+◌, ◌<◌, ◌≤◌, eqb, Bool, true, false, cond, List, [], ◌∷◌, ◌++◌, length, is_some, if◌then◌else◌, None, All, refl, sym, ap, ◌∙◌, append_assoc, append-nil, arith}
 use Rattle.std.proofs.lemmas.Bool.Decides.{nat_tests}
 use Rattle.std.proofs.lemmas.List.{length_push}
 use Rattle.std.specs.Map.{keys_of}
@@ -11,7 +12,7 @@ use Rattle.cell_table.specs.declared.view.Stage.{Stage}
 use Rattle.cell_table.specs.declared.view.Stage.TheVariants.{Open, Drawn, Decided}
 use Rattle.cell_table.specs.Steps.{IsUndecided, IsStoredOrUndecided, IsIdle, after_release}
 use Rattle.cell_table.specs.Pass.{TableState, PassState, IsPassOf, IsHeld, after_give, trail_of}
-use Rattle.attempt_lists.specs.Cells.{Entries, word_at}
+use Rattle.attempt_lists.specs.Cells.{Entries, word_at, cell_at, NoCellTwice}
 use Rattle.tx_core.specs.Causes.{GrewBy}
 use Rattle.tx_core.specs.Seen.{GivesBack}
 use Rattle.tx_core.proofs.Looks.{grows_trans}
@@ -21,7 +22,7 @@ pub record IsGiving {M D : Type 0} (table : TableState M) (first : PassState M D
   pub of : IsPassOf table p
   pub holds : (c : ℕ) → has c (cells_of p.view.held) ≡ is_some (word_at held c)
   pub in_table : All (λ c. c < length table.opening) (keys_of held)
-  pub undecided : IsUndecided p.view.stage
+  pub stored : IsStoredOrUndecided p.view.stage
   pub undrawn : p.view.held ≡ [] → p.view.stage ≡ Open
   pub gives : GivesBack first p
   pub more : List Event
@@ -53,9 +54,9 @@ stored_or_undecided Open h = tt
 stored_or_undecided (Drawn u) h = tt
 stored_or_undecided (Decided u r stored) h = absurd h
 
-undecided_after : {D : Type 0} (hs : List (ℕ × ℕ)) (st : Stage D) → IsUndecided st → IsUndecided (after_release hs st)
-undecided_after [] st h = tt
-undecided_after (t ∷ ts) st h = h
+stored_after : {D : Type 0} (hs : List (ℕ × ℕ)) (st : Stage D) → IsStoredOrUndecided st → IsStoredOrUndecided (after_release hs st)
+stored_after [] st h = tt
+stored_after (t ∷ ts) st h = h
 
 open_after : {D : Type 0} (hs : List (ℕ × ℕ)) (st : Stage D) → hs ≡ [] → after_release hs st ≡ Open
 open_after [] st none = refl
@@ -77,7 +78,7 @@ module _ {M D : Type 0} (table : TableState M) (start : PassState M D) (all : En
   giving_cell p held rest e g is = (
     (all_before _ rest e (rw is at g.in_table)).1,
     g.holds e.0 ∙ rw is (word_at-here rest e.0 e.1),
-    stored_or_undecided p.view.stage g.undecided,
+    g.stored,
   )
 
   -- and the others are left
@@ -90,7 +91,7 @@ module _ {M D : Type 0} (table : TableState M) (start : PassState M D) (all : En
         of = of;
         holds = λ c. rw kept (has_without c e.0 p.view.held ∙ ap (λ b. if eqb e.0 c then false else b) (g.holds c ∙ rw is refl) ∙ sym (word_at-last rest e.0 e.1 c gone));
         in_table = (all_before _ rest e (rw is at g.in_table)).0;
-        undecided = rw stage (undecided_after (without e.0 p.view.held) p.view.stage g.undecided);
+        stored = rw stage (stored_after (without e.0 p.view.held) p.view.stage g.stored);
         undrawn = λ none. stage ∙ open_after (without e.0 p.view.held) p.view.stage (sym kept ∙ none);
         gives = record {
           grows = grows_trans start.view p.view q.view g.gives.grows (rw view (record { meaning = refl; opening = refl; total = refl; known = omega arith; values = λ t h. h; validations = λ t h. h }));
@@ -106,12 +107,12 @@ module _ {M D : Type 0} (table : TableState M) (start : PassState M D) (all : En
         left = omega (arith, g.left, ap length is, length_push rest e, length_push g.more step);
       }
 
-  pub giving_begins : IsPassOf table start → ((c : ℕ) → has c (cells_of start.view.held) ≡ is_some (word_at all c)) → All (λ c. c < length table.opening) (keys_of all) → IsUndecided start.view.stage → (start.view.held ≡ [] → start.view.stage ≡ Open) → IsGiving table start all start all
-  giving_begins of holds in_table undecided undrawn = record {
+  pub giving_begins : IsPassOf table start → ((c : ℕ) → has c (cells_of start.view.held) ≡ is_some (word_at all c)) → All (λ c. c < length table.opening) (keys_of all) → IsStoredOrUndecided start.view.stage → (start.view.held ≡ [] → start.view.stage ≡ Open) → IsGiving table start all start all
+  giving_begins of holds in_table stored undrawn = record {
     of = of;
     holds = holds;
     in_table = in_table;
-    undecided = undecided;
+    stored = stored;
     undrawn = undrawn;
     gives = record { grows = record { meaning = refl; opening = refl; total = refl; known = omega arith; values = λ t h. h; validations = λ t h. h }; known = refl; draws = refl; books = refl; seen = refl; room = refl; reserved = refl };
     more = [];
@@ -124,3 +125,47 @@ module _ {M D : Type 0} (table : TableState M) (start : PassState M D) (all : En
   giving_ends p g =
       let none : p.view.held ≡ [] = none_held p.view.held (λ c. g.holds c) in
       ((g.undrawn none, none), (g.more, g.grew, omega (arith, g.left)))
+
+-- the held cells but the first one with this number
+abbrev other_than : ℕ → List (ℕ × ℕ) → List (ℕ × ℕ)
+other_than c [] = []
+other_than c (t ∷ ts) = cond (eqb t.0 c) ts (t ∷ other_than c ts)
+
+one_less : (c : ℕ) (hs : List (ℕ × ℕ)) → has c (cells_of hs) ≡ true → length (other_than c hs) + 1 ≡ length hs
+one_less c [] h = absurd (no h)
+  where
+    no : false ≡ true → ⊥
+    no e = cc
+one_less c (t ∷ ts) h = elim (ℕ_discrete t.0 c) [
+  | yes here ↦ grind (arith, nat_tests, here)
+  | no away ↦ let rest = one_less c ts (grind (arith, nat_tests, h, away)) in grind (arith, nat_tests, away, rest)
+]
+
+has_other : (c d : ℕ) (hs : List (ℕ × ℕ)) → d ≢ c → has d (cells_of hs) ≡ true → has d (cells_of (other_than c hs)) ≡ true
+has_other c d [] differ h = h
+has_other c d (t ∷ ts) differ h = elim (ℕ_discrete t.0 c) [
+  | yes here ↦ grind (arith, nat_tests, here, differ, h)
+  | no away ↦ elim (ℕ_discrete t.0 d) [
+    | yes same ↦ grind (arith, nat_tests, away, same)
+    | no other ↦ let rest = has_other c d ts differ (grind (arith, nat_tests, h, other)) in grind (arith, nat_tests, away, other, rest)
+  ]
+]
+
+no_word : (c : ℕ) (es : Entries) → ((i : ℕ) → i < length es → cell_at es i ≢ c) → word_at es c ≡ None
+no_word c [] away = refl
+no_word c (e ∷ es) away = let rest = no_word c es (λ i lt. away (suc i) (omega (arith, lt))) in let first : e.0 ≢ c = away 0 (omega arith) in grind (arith, nat_tests, first, rest)
+
+-- no more cells are listed than are held
+pub no_more_listed : (es : Entries) (hs : List (ℕ × ℕ)) → NoCellTwice es → ((c : ℕ) → is_some (word_at es c) ≡ true → has c (cells_of hs) ≡ true) → length es ≤ length hs
+no_more_listed [] hs once held = omega arith
+no_more_listed (e ∷ es) hs once held =
+    let first : has e.0 (cells_of hs) ≡ true = held e.0 (grind (arith, nat_tests)) in
+    let gone : word_at es e.0 ≡ None = no_word e.0 es (λ i lt same. once 0 (suc i) (omega arith) (omega (arith, lt)) (sym same)) in
+    let rest = no_more_listed es (other_than e.0 hs) (λ i j low lt. once (suc i) (suc j) (omega (arith, low)) (omega (arith, lt))) (λ c some. has_other e.0 c hs (λ same. not_there gone (rw (← same) some)) (held c (later c some))) in
+    omega (arith, rest, one_less e.0 hs first)
+  where
+    not_there : word_at es e.0 ≡ None → is_some (word_at es e.0) ≡ true → ⊥
+    not_there gone some = cc
+
+    later : (c : ℕ) → is_some (word_at es c) ≡ true → is_some (word_at (e ∷ es) c) ≡ true
+    later c some = grind (arith, nat_tests, some)

@@ -7,3 +7,6 @@ pub mod Giving
 pub mod Locking
 pub mod Checking
 pub mod Parts
+pub mod LateLocks
+pub mod Storing
+pub mod Providing

@@ -15,9 +15,9 @@ use Rattle.cell_table.specs.Pass.{TableState, PassState, IsPassOf}
 use Rattle.attempt_lists.specs.Cells.{Entries, Listed, word_at, word_of, cell_at}
 use Rattle.attempt_lists.specs.Levels.{Levels}
 use Rattle.attempt_lists.specs.Observed.{Observed}
-use Rattle.tx_core.specs.Seen.{LooksOnly, StandsAt, Takes, HoldsOnly, SameOthers}
+use Rattle.tx_core.specs.Seen.{LooksOnly, StandsAt, IsSeen, Takes, HoldsOnly, SameOthers}
 use Rattle.tx_core.specs.Tx.{IsAttempt}
-use Rattle.tx_core.proofs.Looks.{grows_trans, stands_grows}
+use Rattle.tx_core.proofs.Looks.{grows_trans, stands_grows, seen_grows, seen_stands}
 use Rattle.tx_core.proofs.AttemptFacts.{cell_at-push, number_at-push, word_at-push}
 
 pub has_insert : (c cell u : ℕ) (held : List (ℕ × ℕ)) → has c (cells_of (insert_by cell_key (cell, u) held)) ≡ (if eqb cell c then true else has c (cells_of held))
@@ -91,13 +91,14 @@ module _ {M D : Type 0} where
 
 module _ {M D : Type 0} (table : TableState M) (version : ℕ) where
   -- a lock is taken, and what is observed afterwards still fits
-  pub attempt_locks : (p mid q : PassState M D) (reads after : Observed) (writes : Levels) (held wide more : Listed) (committing : Bool) (cell u : ℕ) → IsAttempt table p version reads writes held committing → mid ≡ record p { places = mid.places } → wide.entries ≡ held.entries → wide.reserved ≡ held.reserved + 1 → wide.reserved ≤ mid.places → Takes mid q cell u → IsPassOf table q → p.view.stage ≡ Open → more.entries ≡ wide.entries ++ (cell, u) ∷ [] → more.reserved + 1 ≡ wide.reserved → cell < length table.opening
+  pub attempt_locks : (p mid q : PassState M D) (reads after : Observed) (writes : Levels) (held wide more : Listed) (committing : Bool) (cell u : ℕ) → IsAttempt table p version reads writes held committing → mid ≡ record p { places = mid.places } → wide.entries ≡ held.entries → Takes mid q cell u → IsPassOf table q → p.view.stage ≡ Open → more.entries ≡ wide.entries ++ (cell, u) ∷ [] → cell < length table.opening
       → length after.versions ≡ length after.observations
-      → ((i : ℕ) → i < length after.observations → StandsAt q.view version (cell_at after.observations i) (word_of after.observations i) (slice_index after.versions i))
+      → ((i : ℕ) → i < length after.observations → IsSeen q.view version (cell_at after.observations i) (word_of after.observations i) (slice_index after.versions i))
+      → (committing ≡ false → (i : ℕ) → i < length after.observations → slice_index after.versions i ≤ version)
       → ((c : ℕ) → word_at after.observations c ≡ None → word_at writes.parent c ≡ None → has c (cells_of q.view.held) ≡ false)
       → ((i : ℕ) → i < length after.observations → has (cell_at after.observations i) (cells_of q.view.held) ≡ true → Among (cell_at after.observations i, slice_index after.versions i) q.view.held)
       → IsAttempt table q version after writes more committing
-  attempt_locks p mid q reads after writes held wide more committing cell u a same entries room locks t of stage pushed used there sized observed met pinned =
+  attempt_locks p mid q reads after writes held wide more committing cell u a same entries t of stage pushed there sized observed early met pinned =
       let view : mid.view ≡ p.view = ap (λ (s : PassState M D). s.view) same in
       let kept : q.view.held ≡ insert_by cell_key (cell, u) p.view.held = t.held ∙ ap (λ (v : View M D). insert_by cell_key (cell, u) v.held) view in
       let now : q.view.stage ≡ Open = t.stage ∙ ap (λ (v : View M D). v.stage) view ∙ stage in
@@ -116,25 +117,31 @@ module _ {M D : Type 0} (table : TableState M) (version : ℕ) where
         pinned = pinned;
         undecided = rw now tt;
         undrawn = λ none. now;
+        nothing_drawn = λ before. now;
+        early = early;
         reserved = rw (ap (λ (s : PassState M D). s.reserved) t.is ∙ ap (λ (s : PassState M D). s.reserved) same) a.reserved;
-        locks = omega (arith, used, locks, ap (λ (s : PassState M D). s.places) t.is);
-        room = λ before. omega (arith, used, room, a.room before);
       }
 
   -- the cell was observed at the version that it is locked at, or it was written alone
-  pub attempt_locks_known : (p mid q : PassState M D) (reads : Observed) (writes : Levels) (held wide more : Listed) (committing : Bool) (cell u : ℕ) → IsAttempt table p version reads writes held committing → mid ≡ record p { places = mid.places } → wide.entries ≡ held.entries → wide.reserved ≡ held.reserved + 1 → wide.reserved ≤ mid.places → Takes mid q cell u → IsPassOf table q → p.view.stage ≡ Open → more.entries ≡ wide.entries ++ (cell, u) ∷ [] → more.reserved + 1 ≡ wide.reserved → cell < length table.opening
+  pub attempt_locks_known : (p mid q : PassState M D) (reads : Observed) (writes : Levels) (held wide more : Listed) (committing : Bool) (cell u : ℕ) → IsAttempt table p version reads writes held committing → mid ≡ record p { places = mid.places } → wide.entries ≡ held.entries → Takes mid q cell u → IsPassOf table q → p.view.stage ≡ Open → more.entries ≡ wide.entries ++ (cell, u) ∷ [] → cell < length table.opening
       → (word_at reads.observations cell ≡ None → word_at writes.parent cell ≡ None → ⊥)
       → ((i : ℕ) → i < length reads.observations → cell_at reads.observations i ≡ cell → slice_index reads.versions i ≡ u)
       → IsAttempt table q version reads writes more committing
-  attempt_locks_known p mid q reads writes held wide more committing cell u a same entries room locks t of stage pushed used there known at_u =
+  attempt_locks_known p mid q reads writes held wide more committing cell u a same entries t of stage pushed there known at_u =
       let view : mid.view ≡ p.view = ap (λ (s : PassState M D). s.view) same in
       let kept : q.view.held ≡ insert_by cell_key (cell, u) p.view.held = t.held ∙ ap (λ (v : View M D). insert_by cell_key (cell, u) v.held) view in
       let grows : Grows p.view q.view = rw (← view) t.grows in
-      attempt_locks p mid q reads reads writes held wide more committing cell u a same entries room locks t of stage pushed used there a.sized
-      (λ i lt. stands_grows p.view q.view version _ _ _ grows (a.observed i lt))
+      attempt_locks p mid q reads reads writes held wide more committing cell u a same entries t of stage pushed there a.sized
+      (λ i lt. seen_grows p.view q.view version _ _ _ grows (keeps (cell_at reads.observations i)) (a.observed i lt))
+      a.early
       (λ c r w. ap (λ h. has c (cells_of h)) kept ∙ has_insert c cell u p.view.held ∙ other c (λ (same : cell ≡ c). known (rw same r) (rw same w)) (a.met c r w))
       (λ i lt h. dite_pin i (a.pinned i lt) (at_u i lt) kept h)
     where
+      keeps : (c : ℕ) → has c (cells_of p.view.held) ≡ true → has c (cells_of q.view.held) ≡ true
+      keeps c h =
+          let kept : q.view.held ≡ insert_by cell_key (cell, u) p.view.held = t.held ∙ ap (λ (s : PassState M D). insert_by cell_key (cell, u) s.view.held) same in
+          ap (λ l. has c (cells_of l)) kept ∙ has_insert c cell u p.view.held ∙ grind (arith, nat_tests, h)
+
       other : (c : ℕ) → (cell ≡ c → ⊥) → has c (cells_of p.view.held) ≡ false → (if eqb cell c then true else has c (cells_of p.view.held)) ≡ false
       other c differ free = grind (arith, nat_tests, differ, free)
 
@@ -148,18 +155,22 @@ module _ {M D : Type 0} (table : TableState M) (version : ℕ) where
       ]
 
   -- the cell was neither observed nor written, and is observed with its lock
-  pub attempt_locks_new : (p mid q : PassState M D) (reads after : Observed) (writes : Levels) (held wide more : Listed) (committing : Bool) (cell u x : ℕ) → IsAttempt table p version reads writes held committing → mid ≡ record p { places = mid.places } → wide.entries ≡ held.entries → wide.reserved ≡ held.reserved + 1 → wide.reserved ≤ mid.places → Takes mid q cell u → IsPassOf table q → p.view.stage ≡ Open → more.entries ≡ wide.entries ++ (cell, u) ∷ [] → more.reserved + 1 ≡ wide.reserved → cell < length table.opening
-      → word_at reads.observations cell ≡ None → after.observations ≡ reads.observations ++ (cell, x) ∷ [] → after.versions ≡ reads.versions ++ u ∷ [] → StandsAt q.view version cell x u
+  pub attempt_locks_new : (p mid q : PassState M D) (reads after : Observed) (writes : Levels) (held wide more : Listed) (committing : Bool) (cell u x : ℕ) → IsAttempt table p version reads writes held committing → mid ≡ record p { places = mid.places } → wide.entries ≡ held.entries → Takes mid q cell u → IsPassOf table q → p.view.stage ≡ Open → more.entries ≡ wide.entries ++ (cell, u) ∷ [] → cell < length table.opening
+      → word_at reads.observations cell ≡ None → after.observations ≡ reads.observations ++ (cell, x) ∷ [] → after.versions ≡ reads.versions ++ u ∷ [] → IsSeen q.view version cell x u → (committing ≡ false → u ≤ version)
       → IsAttempt table q version after writes more committing
-  attempt_locks_new p mid q reads after writes held wide more committing cell u x a same entries room locks t of stage pushed used there unobserved observations versions stands =
+  attempt_locks_new p mid q reads after writes held wide more committing cell u x a same entries t of stage pushed there unobserved observations versions seen low =
       let view : mid.view ≡ p.view = ap (λ (s : PassState M D). s.view) same in
       let kept : q.view.held ≡ insert_by cell_key (cell, u) p.view.held = t.held ∙ ap (λ (v : View M D). insert_by cell_key (cell, u) v.held) view in
       let grows : Grows p.view q.view = rw (← view) t.grows in
-      attempt_locks p mid q reads after writes held wide more committing cell u a same entries room locks t of stage pushed used there
+      attempt_locks p mid q reads after writes held wide more committing cell u a same entries t of stage pushed there
       (rw (observations, versions) (length_push reads.versions u ∙ ap (λ n. n + 1) a.sized ∙ sym (length_push reads.observations (cell, x))))
       (λ i lt. elim (cell_at-push reads.observations (cell, x) i (rw observations at lt)) [
-        | inl old ↦ rw (observations, versions, old.1, old.2, (number_at-push reads.versions u i).0 (omega (arith, old.0, a.sized))) (stands_grows p.view q.view version _ _ _ grows (a.observed i old.0))
-        | inr new ↦ rw (observations, versions, new.1, new.2, (number_at-push reads.versions u i).1 (omega (arith, new.0, a.sized))) stands
+        | inl old ↦ rw (observations, versions, old.1, old.2, (number_at-push reads.versions u i).0 (omega (arith, old.0, a.sized))) (seen_grows p.view q.view version _ _ _ grows (keeps (cell_at reads.observations i)) (a.observed i old.0))
+        | inr new ↦ rw (observations, versions, new.1, new.2, (number_at-push reads.versions u i).1 (omega (arith, new.0, a.sized))) seen
+      ])
+      (λ before i lt. elim (cell_at-push reads.observations (cell, x) i (rw observations at lt)) [
+        | inl old ↦ rw (versions, (number_at-push reads.versions u i).0 (omega (arith, old.0, a.sized))) (a.early before i old.0)
+        | inr new ↦ rw (versions, (number_at-push reads.versions u i).1 (omega (arith, new.0, a.sized))) (low before)
       ])
       (λ c r w. let gone = word_at-push reads.observations cell x c (rw observations at r) in ap (λ h. has c (cells_of h)) kept ∙ has_insert c cell u p.view.held ∙ away c gone.1 (a.met c gone.0 w))
       (λ i lt h. elim (cell_at-push reads.observations (cell, x) i (rw observations at lt)) [
@@ -170,6 +181,11 @@ module _ {M D : Type 0} (table : TableState M) (version : ℕ) where
         | inr new ↦ rw (observations, versions, new.1, (number_at-push reads.versions u i).1 (omega (arith, new.0, a.sized)), kept) (among_inserted (cell, u) p.view.held)
       ])
     where
+      keeps : (c : ℕ) → has c (cells_of p.view.held) ≡ true → has c (cells_of q.view.held) ≡ true
+      keeps c h =
+          let kept : q.view.held ≡ insert_by cell_key (cell, u) p.view.held = t.held ∙ ap (λ (s : PassState M D). insert_by cell_key (cell, u) s.view.held) same in
+          ap (λ l. has c (cells_of l)) kept ∙ has_insert c cell u p.view.held ∙ grind (arith, nat_tests, h)
+
       away : (c : ℕ) → cell ≢ c → has c (cells_of p.view.held) ≡ false → (if eqb cell c then true else has c (cells_of p.view.held)) ≡ false
       away c differ free = grind (arith, nat_tests, differ, free)
 

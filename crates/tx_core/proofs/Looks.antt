@@ -13,8 +13,9 @@ use Rattle.cell_table.specs.Steps.{Triples, Grows, Validated, Observes, looked, 
 use Rattle.cell_table.specs.Pass.{PassState, with_view}
 use Rattle.cell_table.specs.Cells.{has}
 use Rattle.cell_table.specs.Rule.{cells_of}
-use Rattle.cell_table.specs.Steps.{taken, drawn, validate_all}
-use Rattle.tx_core.specs.Seen.{IsLooked, LooksOnly, StandsAt, Takes}
+use Rattle.cell_table.specs.Steps.{taken, drawn, validate_all, validate_open, clocked}
+use Rattle.tx_core.specs.Seen.{IsLooked, LooksOnly, KnowsMore, StandsAt, IsSeen, Takes}
+use Rattle.std.proofs.lemmas.Bool.{cases_lt}
 
 -- a list of triples keeps what it has
 abbrev pub HasAll : Triples → Triples → Type 0
@@ -141,6 +142,36 @@ module _ {M D : Type 0} where
   pub observes_of : (v : View M D) (version c x u : ℕ) → StandsAt v version c x u → Observes v c x version
   observes_of v version c x u s = (u, s.upto, s.reads, s.validated, s.low, s.far)
 
+module _ {M D : Type 0} where
+  -- what stands is seen, also where more cells are held later
+  pub seen_stands : (v : View M D) (version c x u : ℕ) → StandsAt v version c x u → IsSeen v version c x u
+  seen_stands v version c x u s = record {
+    there = s.there;
+    reads = s.reads;
+    small = s.small;
+    stands = λ low. s;
+    held = λ above. absurd (omega (arith, s.low));
+  }
+
+  pub seen_grows : (v w : View M D) (version c x u : ℕ) → Grows v w → (has c (cells_of v.held) ≡ true → has c (cells_of w.held) ≡ true) → IsSeen v version c x u → IsSeen w version c x u
+  seen_grows v w version c x u g keeps s = record {
+    there = rw g.opening s.there;
+    reads = g.values _ s.reads;
+    small = s.small;
+    stands = λ low. stands_grows v w version c x u g (s.stands low);
+    held = λ above. keeps (s.held above);
+  }
+
+  -- what was seen of a cell that isn't held stands
+  pub stands_unheld : (v : View M D) (version c x u : ℕ) → IsSeen v version c x u → has c (cells_of v.held) ≡ false → StandsAt v version c x u
+  stands_unheld v version c x u s free = elim (cases_lt version u) [
+    | inl above ↦ true_and_false (s.held above) free
+    | inr low ↦ s.stands low
+  ]
+    where
+      true_and_false : {b : Bool} → b ≡ true → b ≡ false → StandsAt v version c x u
+      true_and_false e f = cc
+
 pub not_both : {A : Type 0} {b : Bool} → b ≡ true → b ≡ false → A
 not_both e f = cc
 
@@ -196,3 +227,32 @@ drawn_grows v d later = record { meaning = refl; opening = refl; total = refl; k
 
 pub observes_grows : {M D : Type 0} (v w : View M D) (c x p : ℕ) → Grows v w → Observes v c x p → Observes w c x p
 observes_grows v w c x p g o = (o.0, o.1, g.values _ o.2, g.validations _ o.3, o.4, o.5)
+
+has_all_open : {D : Type 0} (st : Stage D) (held : List (ℕ × ℕ)) (p : ℕ) (ss : Triples) → HasAll ss (validate_open st held p ss)
+has_all_open Open held p ss = has_all_all held p ss
+has_all_open (Drawn u) held p ss = λ t h. h
+has_all_open (Decided u r stored) held p ss = λ t h. h
+
+module _ {M D : Type 0} where
+  -- a load of the clock
+  pub clocked_knows : (p q : PassState M D) (r : ℕ) → q ≡ with_view p (clocked p.view r) → p.view.known ≤ r → KnowsMore p q
+  clocked_knows p q r is later =
+      let view : q.view ≡ clocked p.view r = ap (λ (s : PassState M D). s.view) is in
+      record {
+        is = is ∙ ap (with_view p) (sym view);
+        grows = rw view (record { meaning = refl; opening = refl; total = refl; known = later; values = λ t h. h; validations = has_all_open p.view.stage p.view.held r p.view.validations });
+        books = ap (λ (v : View M D). v.books) view;
+        draws = ap (λ (v : View M D). v.draws) view;
+        held = ap (λ (v : View M D). v.held) view;
+        stage = ap (λ (v : View M D). v.stage) view;
+      }
+
+  pub knows_then_looks : (p q r : PassState M D) → KnowsMore p q → LooksOnly q r → KnowsMore p r
+  knows_then_looks p q r a b = record {
+    is = b.0 ∙ ap (λ (s : PassState M D). with_view s r.view) a.is;
+    grows = grows_trans p.view q.view r.view a.grows b.1.grows;
+    books = b.1.books ∙ a.books;
+    draws = b.1.draws ∙ a.draws;
+    held = b.1.held ∙ a.held;
+    stage = b.1.stage ∙ a.stage;
+  }

@@ -1,10 +1,13 @@
 -- Why an attempt is stopped, by the steps in the trail.
-use Rattle.std.specs.Prelude.{◌≡◌, ℕ, ◌+◌, ◌*◌, ◌<◌, ◌≤◌, false, ◌⊎◌, List, ◌++◌, length, slice_get, Some}
+use Rattle.std.specs.Prelude.{◌≡◌, ℕ, ◌+◌, ◌*◌, ◌<◌, ◌≤◌, false, ◌⊎◌, List, ◌++◌, length, slice_get, Some, IsSome}
 use Rattle.cell_table.specs.Cells.{has}
 use Rattle.cell_table.specs.declared.view.Event.{Event}
 use Rattle.cell_table.specs.declared.view.Event.TheVariants.{LockLoaded, LockExchanged}
+use Rattle.attempt_lists.specs.Cells.{Entries, word_at}
 use Rattle.tx_core.specs.declared.stop.Stop.{Stop}
 use Rattle.tx_core.specs.declared.stop.Stop.TheVariants.{Held, Newer, Memory}
+use Rattle.tx_core.specs.declared.stop.TxState.{TxState}
+use Rattle.tx_core.specs.declared.stop.TxState.TheVariants.{Running, Stopped}
 
 -- a load or a compare-exchange of the cell's lock word, from place n of the trail on, found this word
 abbrev pub FoundSince : ℕ → List Event → ℕ → ℕ → Type 0
@@ -33,6 +36,10 @@ IsFoundAt cell Memory = ⊥
 abbrev pub IsCausedAt : ℕ → List ℕ → ℕ → ℕ → List Event → Stop → Type 0
 IsCausedAt cell callers version n trail stop = CausedSince callers version n trail stop × IsFoundAt cell stop
 
+-- the stop was found at a cell of the list
+abbrev pub IsOfOne : Entries → Stop → Type 0
+IsOfOne entries stop = (c : ℕ) × IsSome (word_at entries c) × IsFoundAt c stop
+
 -- it is not want of memory
 abbrev pub IsFound : Stop → Type 0
 IsFound (Held cell owner) = Unit {0}
@@ -42,6 +49,18 @@ IsFound Memory = ⊥
 -- the stop was found, and has its cause from place n of the trail on
 abbrev pub IsCaused : List ℕ → ℕ → ℕ → List Event → Stop → Type 0
 IsCaused callers version n trail stop = CausedSince callers version n trail stop × IsFound stop
+
+-- Newer: another version of the cell, a lower one, was found from place n of the trail on
+abbrev pub FoundTwice : ℕ → List Event → Stop → Type 0
+FoundTwice n trail (Held cell owner) = Unit {0}
+FoundTwice n trail (Newer cell found) = (v : ℕ) × (v < found) × FoundSince n trail cell (2 * v)
+FoundTwice n trail Memory = Unit {0}
+
+-- the state that a call leaves after a stop which spares the attempt: want of memory alone stops it
+abbrev pub spared_by : Stop → TxState
+spared_by (Held cell owner) = Running
+spared_by (Newer cell found) = Running
+spared_by Memory = Stopped
 
 -- the trail grew by at most so many steps
 abbrev pub GrewBy : ℕ → List Event → List Event → Type 0

@@ -1,5 +1,5 @@
 -- What the steps of an attempt leave in its pass, and what an observation stands on.
-use Rattle.std.specs.Prelude.{◌≡◌, ◌≢◌, ℕ, ◌-◌, ◌*◌, ◌^◌, ◌<◌, ◌≤◌, false, length}
+use Rattle.std.specs.Prelude.{◌≡◌, ◌≢◌, ℕ, ◌-◌, ◌*◌, ◌^◌, ◌<◌, ◌≤◌, true, false, length}
 use Rattle.cell_table.specs.declared.view.View.{View}
 use Rattle.cell_table.specs.Cells.{has}
 use Rattle.cell_table.specs.Rule.{cells_of}
@@ -31,6 +31,14 @@ module _ {M D : Type 0} where
     pub near : upto ≤ v.known
     pub validated : Validated v cell u upto
 
+  -- The version u of the cell has the value x: it stands at this version of the attempt, or it is newer and the cell is held
+  pub record IsSeen (v : View M D) (version cell x u : ℕ) : Type 0 where
+    pub there : cell < length v.opening
+    pub reads : Reads v cell u x
+    pub small : 2 * u < 2 ^ 64
+    pub stands : u ≤ version → StandsAt v version cell x u
+    pub held : version < u → has cell (cells_of v.held) ≡ true
+
   -- cells were given back: the pass knows what it knew, and its books are as before
   pub record GivesBack (p q : PassState M D) : Type 0 where
     pub grows : Grows p.view q.view
@@ -59,6 +67,15 @@ module _ {M D : Type 0} where
     pub books : q.view.books ≡ p.view.books
     pub draws : q.view.draws ≡ p.view.draws
     pub known : q.view.known ≡ p.view.known
+    pub stage : q.view.stage ≡ p.view.stage
+
+  -- the view knows more, and its attempt has come no further
+  pub record KnowsMore (p q : PassState M D) : Type 0 where
+    pub is : q ≡ with_view p q.view
+    pub grows : Grows p.view q.view
+    pub books : q.view.books ≡ p.view.books
+    pub draws : q.view.draws ≡ p.view.draws
+    pub held : q.view.held ≡ p.view.held
     pub stage : q.view.stage ≡ p.view.stage
 
   -- no other cell came or went

@@ -1,12 +1,12 @@
 //! Validation: whether what was observed is still so.
-ghost use Rattle.std.specs.Prelude.{◌≡◌, ℕ, ◌+◌, ◌<◌, ◌≤◌, true, false, length, slice_index, is_some, IfErr, OnOk};
+ghost use Rattle.std.specs.Prelude.{◌≡◌, ℕ, ◌+◌, ◌<◌, ◌≤◌, true, false, length, slice_index, is_some, IsOk, IfErr, OnOk};
 ghost use Rattle.cell_table.specs.Cells.{has};
 ghost use Rattle.cell_table.specs.Rule.{cells_of, callers_of};
 ghost use Rattle.cell_table.specs.Steps.{Validated};
-ghost use Rattle.cell_table.specs.Pass.{IsPassOf, trail_of};
+ghost use Rattle.cell_table.specs.Pass.{IsPassOf, IsSole, trail_of};
 ghost use Rattle.attempt_lists.specs.Cells.{word_at, cell_at, word_of};
 ghost use Rattle.tx_core.specs.Causes.{IsCaused, IsCausedAt, GrewBy};
-ghost use Rattle.tx_core.specs.Seen.{LooksOnly, StandsAt};
+ghost use Rattle.tx_core.specs.Seen.{LooksOnly, IsSeen};
 
 use crate::steps::still;
 use crate::stop::Stop;
@@ -24,10 +24,11 @@ fn check_one<M: Meaning>(
     requires of { IsPassOf table.now pass.old }
     requires few { table.now.callers ≤ 4096 }
     requires holds { (c : ℕ) → has c (cells_of pass.old.view.held) ≡ is_some (word_at held.now.entries c) }
-    requires observed { StandsAt pass.old.view version seen.cell seen.value seen.version }
+    requires observed { IsSeen pass.old.view version seen.cell seen.value seen.version }
     ensures of { IsPassOf table.now pass.new }
     ensures looks { LooksOnly pass.old pass.new }
     ensures ok { OnOk result (has seen.cell (cells_of pass.old.view.held) ≡ false → Validated pass.new.view seen.cell seen.version pass.old.view.known) }
+    ensures sole { IsSole pass.old → pass.old.seen ≤ version → IsOk result }
     ensures steps { GrewBy 1 (trail_of pass.old) (trail_of pass.new) }
     ensures cause { IfErr result (IsCaused (callers_of pass.old.view.books) version (length (trail_of pass.old)) (trail_of pass.new)) }
 {
@@ -49,10 +50,11 @@ pub(crate) fn check<M: Meaning>(
     requires of { IsPassOf table.now pass.old }
     requires few { table.now.callers ≤ 4096 }
     requires holds { (c : ℕ) → has c (cells_of pass.old.view.held) ≡ is_some (word_at held.now.entries c) }
-    requires observed { (i : ℕ) → i < length reads.now.observations → StandsAt pass.old.view version (cell_at reads.now.observations i) (word_of reads.now.observations i) (slice_index reads.now.versions i) }
+    requires observed { (i : ℕ) → i < length reads.now.observations → IsSeen pass.old.view version (cell_at reads.now.observations i) (word_of reads.now.observations i) (slice_index reads.now.versions i) }
     ensures of { IsPassOf table.now pass.new }
     ensures looks { LooksOnly pass.old pass.new }
     ensures ok { OnOk result ((i : ℕ) → i < length reads.now.observations → has (cell_at reads.now.observations i) (cells_of pass.old.view.held) ≡ false → Validated pass.new.view (cell_at reads.now.observations i) (slice_index reads.now.versions i) pass.old.view.known) }
+    ensures sole { IsSole pass.old → pass.old.seen ≤ version → IsOk result }
     ensures steps { GrewBy (length reads.now.observations) (trail_of pass.old) (trail_of pass.new) }
     ensures cause { IfErr result (IsCaused (callers_of pass.old.view.books) version (length (trail_of pass.old)) (trail_of pass.new)) }
 {

@@ -4,7 +4,7 @@ ghost use Rattle.std.specs.Map.{keys_of};
 ghost use Rattle.cell_table.specs.Cells.{has};
 ghost use Rattle.cell_table.specs.Rule.{cells_of};
 ghost use Rattle.cell_table.specs.declared.view.Stage.TheVariants.{Open};
-ghost use Rattle.cell_table.specs.Steps.{IsUndecided, IsIdle};
+ghost use Rattle.cell_table.specs.Steps.{IsStoredOrUndecided, IsIdle};
 ghost use Rattle.cell_table.specs.Pass.{IsPassOf, trail_of};
 ghost use Rattle.attempt_lists.specs.Cells.{word_at};
 ghost use Rattle.tx_core.specs.Causes.{GrewBy};
@@ -14,29 +14,50 @@ use attempt_lists::CellList;
 use cell_table::{CellTable, Meaning, Pass};
 use std::alloc::AllocError;
 
-/// Reserves room for one more lock beside those reserved already, in the list of held cells and in the pass.
+/// Sees that there is room for one more lock beside those promised, in the list of held cells and in the pass.
 pub(crate) fn reserve_lock<M: Meaning>(
     pass: &mut Pass<M>,
     held: &mut CellList,
+    promised: usize,
+) -> Result<(), AllocError>
+    requires locks { held.old.reserved ≤ pass.old.places }
+    requires promised { promised ≤ held.old.reserved }
+    ensures pass { pass.new ≡ record pass.old { places = pass.new.places } }
+    ensures entries { held.new.entries ≡ held.old.entries }
+    ensures locks { held.new.reserved ≤ pass.new.places }
+    ensures kept { held.old.reserved ≤ held.new.reserved }
+    ensures ok { OnOk result (promised < held.new.reserved) }
+{
+    if promised < held.reserved() {
+        return Ok(());
+    }
+    reserve_more_locks(pass, held, 1)
+}
+
+/// Reserves room for more locks beside those reserved already.
+pub(crate) fn reserve_more_locks<M: Meaning>(
+    pass: &mut Pass<M>,
+    held: &mut CellList,
+    more: u32,
 ) -> Result<(), AllocError>
     requires locks { held.old.reserved ≤ pass.old.places }
     ensures pass { pass.new ≡ record pass.old { places = pass.new.places } }
     ensures entries { held.new.entries ≡ held.old.entries }
     ensures locks { held.new.reserved ≤ pass.new.places }
-    ensures ok { OnOk result (held.new.reserved ≡ held.old.reserved + 1) }
+    ensures ok { OnOk result (held.new.reserved ≡ held.old.reserved + more) }
     ensures err { OnErr result (held.new.reserved ≡ held.old.reserved) }
 {
     let Ok(reserved) = u32::try_from(held.reserved()) else {
         return Err(AllocError);
     };
-    let Some(locks) = reserved.checked_add(1) else {
+    let Some(locks) = reserved.checked_add(more) else {
         return Err(AllocError);
     };
     pass.reserve_locks(locks)?;
-    held.reserve(1)
+    held.reserve(more as usize)
 }
 
-/// Gives all held cells back, the last one first, while nothing is decided. Their versions are those that they had.
+/// Gives all held cells back, the last one first, while nothing is decided or once all values are stored.
 pub(crate) fn give_back_all<M: Meaning>(
     table: &CellTable<M>,
     pass: &mut Pass<M>,
@@ -45,13 +66,15 @@ pub(crate) fn give_back_all<M: Meaning>(
     requires of { IsPassOf table.now pass.old }
     requires holds { (c : ℕ) → has c (cells_of pass.old.view.held) ≡ is_some (word_at held.entries c) }
     requires in_table { All (λ c. c < length table.now.opening) (keys_of held.entries) }
-    requires undecided { IsUndecided pass.old.view.stage }
+    requires stored { IsStoredOrUndecided pass.old.view.stage }
     requires undrawn { pass.old.view.held ≡ [] → pass.old.view.stage ≡ Open }
     ensures of { IsPassOf table.now pass.new }
     ensures idle { IsIdle pass.new.view }
     ensures gives { GivesBack pass.old pass.new }
-    ensures steps { GrewBy (length held.entries) (trail_of pass.old) (trail_of pass.new) }
+    ensures steps { GrewBy (length pass.old.view.held) (trail_of pass.old) (trail_of pass.new) }
 {
+    // No cell is listed twice.
+    let _ = held.as_slice();
     while let Some((cell, _)) = held.pop() {
         table.give_back(pass, cell);
     }

@@ -2,15 +2,24 @@
 //! commit stands at one place.
 #![tactic(auto)]
 
+mod additions;
 mod check;
+mod commit;
 mod gives;
+mod hold;
+mod late;
+mod locks;
+mod peek;
 mod resolve_end;
+mod spare;
 mod steps;
+mod stores;
 mod stop;
 mod tx;
 mod untold;
 
 pub use resolve_end::ResolveEnd;
+pub use spare::Spare;
 pub use stop::{Stop, TxState};
 pub use tx::Tx;
 pub use untold::Untold;

@@ -6,8 +6,8 @@ ghost use Rattle.cell_table.specs.declared.view.Stage.TheVariants.{Open};
 ghost use Rattle.cell_table.specs.Steps.{IsWord, Reads, Validated};
 ghost use Rattle.cell_table.specs.Pass.{IsPassOf, IsSole, trail_of};
 ghost use Rattle.attempt_lists.specs.Cells.{cell_at, word_of};
-ghost use Rattle.tx_core.specs.Causes.{IsCausedAt, GrewBy};
-ghost use Rattle.tx_core.specs.Seen.{LooksOnly, StandsAt, Takes};
+ghost use Rattle.tx_core.specs.Causes.{IsCausedAt, FoundSince, GrewBy};
+ghost use Rattle.tx_core.specs.Seen.{LooksOnly, StandsAt, IsSeen, Takes};
 ghost use Rattle.tx_core.specs.declared.stop.Stop.TheVariants.{Held, Newer};
 
 use crate::stop::Stop;
@@ -46,6 +46,7 @@ pub(crate) fn read_cell<M: Meaning>(
     ensures steps { GrewBy 3 (trail_of pass.old) (trail_of pass.new) }
     ensures sole { IsSole pass.old → pass.old.seen ≤ version → IsOk result }
     ensures ok { IfOk result (λ r. StandsAt pass.new.view version cell r.0 r.1) }
+    ensures looked { IfOk result (λ r. FoundSince (length (trail_of pass.old)) (trail_of pass.new) cell (2 * r.1)) }
     ensures cause { IfErr result (IsCausedAt cell (callers_of pass.old.view.books) version (length (trail_of pass.old)) (trail_of pass.new)) }
 {
     let first = table.look_lock(pass, cell);
@@ -85,7 +86,10 @@ pub(crate) fn take_from<M: Meaning>(
     ensures looks { OnErr result (LooksOnly pass.old pass.new) }
     ensures steps { GrewBy 1 (trail_of pass.old) (trail_of pass.new) }
     ensures cause { IfErr result (IsCausedAt cell (callers_of pass.old.view.books) version (length (trail_of pass.old)) (trail_of pass.new)) }
+    ensures sole { IsSole pass.old → pass.old.seen ≤ version → IsOk result }
 {
+    // A pass with every caller number knows the newest version.
+    pass.alone();
     match table.take_lock(pass, cell, 2 * from) {
         Ok(()) => Ok(()),
         Err(word) => {
@@ -115,6 +119,7 @@ pub(crate) fn lock_cell<M: Meaning>(
     ensures looks { OnErr result (LooksOnly pass.old pass.new) }
     ensures steps { GrewBy 2 (trail_of pass.old) (trail_of pass.new) }
     ensures cause { IfErr result (IsCausedAt cell (callers_of pass.old.view.books) version (length (trail_of pass.old)) (trail_of pass.new)) }
+    ensures sole { IsSole pass.old → pass.old.seen ≤ version → IsOk result }
 {
     let word = table.look_lock(pass, cell);
     let Some(found) = free_version(word) else {
@@ -144,13 +149,14 @@ pub(crate) fn lock_seen<M: Meaning>(
     requires undrawn { pass.old.view.stage ≡ Open }
     requires place { 0 < pass.old.places }
     requires known { version ≤ pass.old.view.known }
-    requires observed { (i : ℕ) → i < length reads.now.observations → StandsAt pass.old.view version (cell_at reads.now.observations i) (word_of reads.now.observations i) (slice_index reads.now.versions i) }
+    requires observed { (i : ℕ) → i < length reads.now.observations → IsSeen pass.old.view version (cell_at reads.now.observations i) (word_of reads.now.observations i) (slice_index reads.now.versions i) }
     ensures of { IsPassOf table.now pass.new }
     ensures takes { IfOk result (λ u. Takes pass.old pass.new cell u) }
     ensures seen { IfOk result (λ u. (i : ℕ) → i < length reads.now.observations → cell_at reads.now.observations i ≡ cell → slice_index reads.now.versions i ≡ u) }
     ensures looks { OnErr result (LooksOnly pass.old pass.new) }
     ensures steps { GrewBy 2 (trail_of pass.old) (trail_of pass.new) }
     ensures cause { IfErr result (IsCausedAt cell (callers_of pass.old.view.books) version (length (trail_of pass.old)) (trail_of pass.new)) }
+    ensures sole { IsSole pass.old → pass.old.seen ≤ version → IsOk result }
 {
     // No cell was observed twice.
     let _ = reads.as_slice();
@@ -180,6 +186,7 @@ pub(crate) fn still<M: Meaning>(
     ensures of { IsPassOf table.now pass.new }
     ensures looks { LooksOnly pass.old pass.new }
     ensures ok { OnOk result (Validated pass.new.view seen.cell seen.version pass.old.view.known) }
+    ensures sole { IsSole pass.old → pass.old.seen ≤ version → IsOk result }
     ensures steps { GrewBy 1 (trail_of pass.old) (trail_of pass.new) }
     ensures cause { IfErr result (IsCausedAt seen.cell (callers_of pass.old.view.books) version (length (trail_of pass.old)) (trail_of pass.new)) }
 {

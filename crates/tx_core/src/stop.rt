@@ -1,4 +1,6 @@
 //! Why an attempt is stopped, and how it stands.
+ghost use Rattle.std.specs.Prelude.{◌≡◌};
+ghost use Rattle.tx_core.specs.Causes.{spared_by};
 
 /// Why an attempt can't go on.
 #[derive(Clone, Copy, Debug, PartialEq, Eq)]
@@ -22,4 +24,14 @@ pub enum TxState {
     ChildStopped,
     /// The attempt answered a `Stop`: only `abort` may follow.
     Stopped,
+}
+
+/// The state after a stop that spares the attempt: want of memory alone stops it.
+pub(crate) fn spared(stop: Stop) -> TxState
+    ensures { result ≡ spared_by stop }
+{
+    match stop {
+        Stop::Held { .. } | Stop::Newer { .. } => TxState::Running,
+        Stop::Memory => TxState::Stopped,
+    }
 }

@@ -1,12 +1,13 @@
 //! One attempt.
-ghost use Rattle.std.specs.Prelude.{◌≡◌, ℕ, ◌+◌, ◌-◌, ◌^◌, ◌<◌, ◌≤◌, ◌≢◌, ◌↔◌, List, [], ◌∷◌, ◌++◌, true, false, length, slice_set, is_some, Some, None, IsSome, IsTrue, IsOk, IfOk, IfErr, OnOk, OnErr, ◌⊎◌};
+ghost use Rattle.std.specs.Prelude.{◌≡◌, ℕ, ◌+◌, ◌-◌, ◌^◌, ◌<◌, ◌≤◌, ◌≢◌, ◌↔◌, List, [], ◌∷◌, ◌++◌, true, false, length, slice_index, slice_set, is_some, Some, None, IsSome, IsTrue, IsOk, IfOk, IfErr, OnOk, OnErr, ◌⊎◌};
 ghost use Rattle.std.specs.Option.{option_or};
 
 use crate::check::check;
 use crate::gives::{give_back_all, reserve_lock};
-use crate::steps::{lock_cell, lock_seen, read_cell};
+use crate::spare::Spare;
+use crate::steps::read_cell;
 use crate::stop::{Stop, TxState};
-use attempt_lists::{CellList, Observation, ReadSet, WriteSet};
+use attempt_lists::{Additions, CellList, Observation, ReadSet, WriteSet};
 use cell_table::{CellTable, Meaning, Pass};
 use std::alloc::{AllocError, Global};
 use std::marker::Model;
@@ -15,25 +16,29 @@ use std::marker::Model;
 ///
 /// Each value that it read is the cell's value at its version.
 pub struct Tx<'a, M: Meaning> {
-    table: &'a CellTable<M>,
-    pass: Pass<M>,
-    version: u64,
-    reads: ReadSet,
-    writes: WriteSet,
-    held: CellList,
-    notes: Vec<M::Done, Global>,
-    state: TxState,
-    committing: bool,
+    pub(crate) table: &'a CellTable<M>,
+    pub(crate) pass: Pass<M>,
+    pub(crate) version: u64,
+    pub(crate) reads: ReadSet,
+    pub(crate) writes: WriteSet,
+    pub(crate) held: CellList,
+    pub(crate) notes: Vec<M::Done, Global>,
+    pub(crate) additions: Additions,
+    pub(crate) spare: Spare,
+    pub(crate) state: TxState,
+    pub(crate) committing: bool,
 }
 
 impl<'a, M: Meaning> Model for Tx<'a, M> {
+    ghost use Rattle.std.specs.Prelude.{◌≡◌};
     ghost use Rattle.tx_core.specs.Tx.{Attempt, IsAttempt};
+    ghost use Rattle.tx_core.specs.Additions.{IsProvided};
 
     ghost Value = { Attempt M M.Done };
 
-    ghost view = { λ a. record { table = a.table.now; pass = a.pass; state = a.state; version = a.version; observations = a.reads.observations; versions = a.reads.versions; writes = a.writes.parent; notes = a.notes.items; committing = a.committing } };
+    ghost view = { λ a. record { table = a.table.now; pass = a.pass; state = a.state; version = a.version; observations = a.reads.observations; versions = a.reads.versions; writes = a.writes.parent; notes = a.notes.items; additions = a.additions; spare = a.spare; committing = a.committing } };
 
-    ghost invariant = { λ a. IsAttempt a.table.now a.pass a.version a.reads a.writes a.held a.committing };
+    ghost invariant = { λ a. IsAttempt a.table.now a.pass a.version a.reads a.writes a.held a.committing × IsProvided a.pass a.reads a.writes a.held a.additions a.spare a.committing };
 }
 
 impl<'a, M: Meaning> Tx<'a, M> {
@@ -44,6 +49,7 @@ impl<'a, M: Meaning> Tx<'a, M> {
     ghost use Rattle.cell_table.specs.Steps.{IsIdle, Grows, clocked, Observes};
     ghost use Rattle.cell_table.specs.Pass.{IsPassOf, IsSole, IsHeld, trail_of, note};
     ghost use Rattle.attempt_lists.specs.Cells.{Entries, word_at, word_of, cell_at, put, IsAscending};
+    ghost use Rattle.attempt_lists.specs.Parts.{waiting_of};
     ghost use Rattle.tx_core.specs.declared.stop.Stop.TheVariants.{Held, Newer, Memory};
     ghost use Rattle.tx_core.specs.declared.stop.TxState.TheVariants.{Running, Child, ChildStopped, Stopped};
     ghost use Rattle.tx_core.specs.Causes.{CausedSince, IsOfCell, IsFound, GrewBy};
@@ -64,7 +70,7 @@ impl<'a, M: Meaning> Tx<'a, M> {
         requires idle { IsIdle pass.view }
         requires draw { 0 < pass.view.draws }
         ensures table { IfOk result (λ tx. tx.table ≡ table.now) }
-        ensures fresh { IfOk result (λ tx. (tx.state ≡ Running) × (tx.observations ≡ []) × (tx.writes ≡ []) × (tx.notes ≡ []) × (tx.committing ≡ false)) }
+        ensures fresh { IfOk result (λ tx. (tx.state ≡ Running) × (tx.observations ≡ []) × (tx.writes ≡ []) × (tx.notes ≡ []) × ((part : ℕ) → waiting_of tx.additions part ≡ []) × (tx.committing ≡ false)) }
         ensures pass { IfOk result (λ tx. tx.pass ≡ record pass { view = clocked pass.view tx.version; reserved = tx.pass.reserved }) }
         ensures version { IfOk result (λ tx. (trail_of tx.pass ≡ trail_of pass ++ ClockLoaded tx.version ∷ []) × (pass.seen ≤ tx.version)) }
         ensures refused { IfErr result (λ back. back.0 ≡ pass) }
@@ -81,6 +87,12 @@ impl<'a, M: Meaning> Tx<'a, M> {
             writes: WriteSet::new(alloc),
             held: CellList::new(alloc),
             notes: Vec::new(alloc),
+            additions: Additions::new(alloc),
+            spare: Spare {
+                locks: 0,
+                observations: 0,
+                writes: 0,
+            },
             state: TxState::Running,
             committing: false,
         })
@@ -127,9 +139,13 @@ impl<'a, M: Meaning> Tx<'a, M> {
         self.table.limits();
     }
 
-    /// What is true of every attempt at any moment: each of its observations stands at its version in the view of its pass.
+    /// What is true of every attempt at any moment: each of its observations stands at its version in the view of its
+    /// pass, but for those of newer versions, of which there are none before the commit.
     pub fn vouched(&self)
-        ensures { (i : ℕ) → i < length self.now.observations → Observes self.now.pass.view (cell_at self.now.observations i) (word_of self.now.observations i) self.now.version }
+        ensures stands { (i : ℕ) → i < length self.now.observations → slice_index self.now.versions i ≤ self.now.version → Observes self.now.pass.view (cell_at self.now.observations i) (word_of self.now.observations i) self.now.version }
+        ensures early { self.now.committing ≡ false → (i : ℕ) → i < length self.now.observations → slice_index self.now.versions i ≤ self.now.version }
+        ensures sized { length self.now.versions ≡ length self.now.observations }
+        ensures undrawn { self.now.committing ≡ false → self.now.pass.view.stage ≡ Open }
     {
         let _ = &self.version;
     }
@@ -195,123 +211,6 @@ impl<'a, M: Meaning> Tx<'a, M> {
         }
     }
 
-    /// Takes the lock of a cell, and then answers as `read`. A cell that is held already takes no step.
-    ///
-    /// One compare-exchange decides: from the version that was observed, or after one look from a version that isn't above
-    /// the attempt's. After a stop the state is `Stopped`, and no cell is held that wasn't.
-    pub fn hold(&mut self, cell: u32) -> Result<u64, Stop>
-        requires running { self.old.state ≡ Running }
-        requires before_commit { self.old.committing ≡ false }
-        requires undrawn { self.old.pass.view.stage ≡ Open }
-        requires cell { cell < length self.old.table.opening }
-        ensures held { OnOk result (IsHeld self.new.pass cell) }
-        ensures value { IfOk result (λ x. option_or (word_at self.old.writes cell) (word_at self.new.observations cell) ≡ Some x) }
-        ensures already { IsHeld self.old.pass cell → IsOk result × (self.new ≡ self.old) }
-        ensures adds { OnOk result ((self.new ≡ record self.old { pass = self.new.pass }) ⊎ ((word_at self.old.writes cell ≡ None) × (word_at self.old.observations cell ≡ None) × (x : ℕ) × Observed self.old self.new cell x)) }
-        ensures stopped { IfErr result (λ stop. IsOfCell cell stop × (self.new ≡ record self.old { pass = self.new.pass; state = Stopped }) × LooksOnly self.old.pass (record self.new.pass { places = self.old.pass.places })) }
-        ensures cause { IfErr result (CausedSince (callers_of self.old.pass.view.books) self.old.version (length (trail_of self.old.pass)) (trail_of self.new.pass)) }
-        ensures pass { HoldsOnly self.old.pass self.new.pass }
-        ensures others { SameOthers self.old.pass self.new.pass cell }
-        ensures steps { GrewBy 3 (trail_of self.old.pass) (trail_of self.new.pass) }
-    {
-        if self.held.place(cell).is_some() {
-            return Ok(self.own(cell));
-        }
-        if self.reads.get(cell).is_some() || self.writes.get(cell).is_some() {
-            self.lock_known(cell)?;
-            return Ok(self.own(cell));
-        }
-        let value = self.lock_new(cell)?;
-        Ok(value)
-    }
-
-    // The attempt's own write of a cell, else what it observed of it.
-    fn own(&self, cell: u32) -> u64
-        requires { IsSome (option_or (word_at self.now.writes cell) (word_at self.now.observations cell)) }
-        ensures { option_or (word_at self.now.writes cell) (word_at self.now.observations cell) ≡ Some result }
-    {
-        match self.writes.get(cell) {
-            Some(value) => value,
-            None => match self.reads.get(cell) {
-                Some(seen) => seen.value,
-                None => unreachable!(),
-            },
-        }
-    }
-
-    // Takes the lock of a cell that was observed or written.
-    fn lock_known(&mut self, cell: u32) -> Result<(), Stop>
-        requires undrawn { self.old.pass.view.stage ≡ Open }
-        requires cell { cell < length self.old.table.opening }
-        requires unheld { has cell (cells_of self.old.pass.view.held) ≡ false }
-        requires known { IsSome (option_or (word_at self.old.writes cell) (word_at self.old.observations cell)) }
-        ensures held { OnOk result (IsHeld self.new.pass cell) }
-        ensures same { OnOk result (self.new ≡ record self.old { pass = self.new.pass }) }
-        ensures stopped { IfErr result (λ stop. IsOfCell cell stop × (self.new ≡ record self.old { pass = self.new.pass; state = Stopped }) × LooksOnly self.old.pass (record self.new.pass { places = self.old.pass.places })) }
-        ensures cause { IfErr result (CausedSince (callers_of self.old.pass.view.books) self.old.version (length (trail_of self.old.pass)) (trail_of self.new.pass)) }
-        ensures pass { HoldsOnly self.old.pass self.new.pass }
-        ensures others { SameOthers self.old.pass self.new.pass cell }
-        ensures steps { GrewBy 2 (trail_of self.old.pass) (trail_of self.new.pass) }
-    {
-        let Ok(()) = reserve_lock(&mut self.pass, &mut self.held) else {
-            self.state = TxState::Stopped;
-            return Err(Stop::Memory);
-        };
-        let table = self.table;
-        match lock_seen(table, &mut self.pass, &self.reads, cell, self.version) {
-            Ok(version) => {
-                self.held.push_reserved(cell, version);
-                Ok(())
-            }
-            Err(stop) => {
-                self.state = TxState::Stopped;
-                Err(stop)
-            }
-        }
-    }
-
-    // Takes the lock of a cell that was neither observed nor written, and observes its value.
-    fn lock_new(&mut self, cell: u32) -> Result<u64, Stop>
-        requires undrawn { self.old.pass.view.stage ≡ Open }
-        requires cell { cell < length self.old.table.opening }
-        requires unwritten { word_at self.old.writes cell ≡ None }
-        requires unobserved { word_at self.old.observations cell ≡ None }
-        ensures held { OnOk result (IsHeld self.new.pass cell) }
-        ensures value { IfOk result (λ x. option_or (word_at self.old.writes cell) (word_at self.new.observations cell) ≡ Some x) }
-        ensures observes { IfOk result (λ x. Observed self.old self.new cell x) }
-        ensures stopped { IfErr result (λ stop. IsOfCell cell stop × (self.new ≡ record self.old { pass = self.new.pass; state = Stopped }) × LooksOnly self.old.pass (record self.new.pass { places = self.old.pass.places })) }
-        ensures cause { IfErr result (CausedSince (callers_of self.old.pass.view.books) self.old.version (length (trail_of self.old.pass)) (trail_of self.new.pass)) }
-        ensures pass { HoldsOnly self.old.pass self.new.pass }
-        ensures others { SameOthers self.old.pass self.new.pass cell }
-        ensures steps { GrewBy 3 (trail_of self.old.pass) (trail_of self.new.pass) }
-    {
-        let Ok(()) = reserve_lock(&mut self.pass, &mut self.held) else {
-            self.state = TxState::Stopped;
-            return Err(Stop::Memory);
-        };
-        let Ok(()) = self.reads.reserve(1) else {
-            self.state = TxState::Stopped;
-            return Err(Stop::Memory);
-        };
-        let table = self.table;
-        match lock_cell(table, &mut self.pass, cell, self.version) {
-            Ok(version) => {
-                let value = table.look_value(&mut self.pass, cell);
-                self.held.push_reserved(cell, version);
-                self.reads.push_reserved(Observation {
-                    cell,
-                    value,
-                    version,
-                });
-                Ok(value)
-            }
-            Err(stop) => {
-                self.state = TxState::Stopped;
-                Err(stop)
-            }
-        }
-    }
-
     /// Writes a cell, for the commit. It stores nothing that others see and looks at nothing.
     ///
     /// After want of memory the state is `Stopped`, and nothing is written.
@@ -323,7 +222,8 @@ impl<'a, M: Meaning> Tx<'a, M> {
         ensures stopped { OnErr result (self.new ≡ record self.old { pass = self.new.pass; state = Stopped }) }
         ensures pass { self.new.pass ≡ record self.old.pass { places = self.new.pass.places } }
     {
-        let Ok(()) = reserve_lock(&mut self.pass, &mut self.held) else {
+        let promised = self.writes.parent().len() + self.spare.locks as usize;
+        let Ok(()) = reserve_lock(&mut self.pass, &mut self.held, promised) else {
             self.state = TxState::Stopped;
             return Err(AllocError);
         };
@@ -364,6 +264,7 @@ impl<'a, M: Meaning> Tx<'a, M> {
         ensures same { OnOk result (self.new ≡ record self.old { pass = self.new.pass; committing = true }) }
         ensures stopped { IfErr result (λ stop. IsFound stop × (self.new ≡ record self.old { pass = self.new.pass; state = Stopped; committing = true })) }
         ensures cause { IfErr result (CausedSince (callers_of self.old.pass.view.books) self.old.version (length (trail_of self.old.pass)) (trail_of self.new.pass)) }
+        ensures sole { IsSole self.old.pass → IsOk result }
         ensures draws { self.new.pass.view.draws ≡ self.old.pass.view.draws - 1 }
         ensures held { self.new.pass.view.held ≡ self.old.pass.view.held }
         ensures books { self.new.pass.books ≡ self.old.pass.books }
@@ -389,8 +290,9 @@ impl<'a, M: Meaning> Tx<'a, M> {
         ensures idle { IsIdle result.view }
         ensures seen { result.seen ≡ self.entry.version }
         ensures books { result.books ≡ self.entry.pass.books }
+        ensures steps { GrewBy (length self.entry.pass.view.held) (trail_of self.entry.pass) (trail_of result) }
         ensures pass { (result.room ≡ self.entry.pass.room) × (result.view.draws ≡ self.entry.pass.view.draws) }
-        ensures vouched { (i : ℕ) → i < length self.entry.observations → Observes result.view (cell_at self.entry.observations i) (word_of self.entry.observations i) self.entry.version }
+        ensures vouched { (i : ℕ) → i < length self.entry.observations → slice_index self.entry.versions i ≤ self.entry.version → Observes result.view (cell_at self.entry.observations i) (word_of self.entry.observations i) self.entry.version }
         ensures grows { Grows self.entry.pass.view result.view }
     {
         let Tx {
@@ -401,6 +303,8 @@ impl<'a, M: Meaning> Tx<'a, M> {
             writes: _,
             held,
             notes: _,
+            additions: _,
+            spare: _,
             state: _,
             committing: _,
         } = self;
@@ -415,11 +319,13 @@ impl<'a, M: Meaning> Tx<'a, M> {
         requires running { self.state ≡ Running }
         requires first { self.committing ≡ false }
         requires no_write { self.writes ≡ [] }
+        requires no_addition { (part : ℕ) → waiting_of self.additions part ≡ [] }
         requires explained { (m : M) → self.pass.view.meaning ≡ Some m → M.explains m self.observations [] self.notes }
         ensures of { IsPassOf self.entry.table result }
         ensures idle { IsIdle result.view }
         ensures seen { result.seen ≡ self.entry.version }
         ensures record { result.books ≡ note self.entry.version false (record { observations = self.entry.observations; writes = []; dones = self.entry.notes }) self.entry.pass.books }
+        ensures steps { GrewBy (length self.entry.pass.view.held) (trail_of self.entry.pass) (trail_of result) }
         ensures pass { (result.room ≡ self.entry.pass.room) × (result.view.draws ≡ self.entry.pass.view.draws) }
         ensures grows { Grows self.entry.pass.view result.view }
     {
@@ -431,6 +337,8 @@ impl<'a, M: Meaning> Tx<'a, M> {
             writes: _,
             held,
             notes,
+            additions: _,
+            spare: _,
             state: _,
             committing: _,
         } = self;

@@ -1,5 +1,5 @@
 use Rattle.std.proofs.Common.{◌+◌, arith}
-use Rattle.tx_core.proofs.Looks.{looks_trans, stands_grows}
+use Rattle.tx_core.proofs.Looks.{looks_trans, seen_grows}
 use Rattle.tx_core.proofs.Found.{grew_trans, grew_more}
 use Rattle.tx_core.proofs.Checking.{checking_step}
 use Rattle.tx_core.proofs.check.check.Goals as goal
@@ -8,7 +8,7 @@ use Rattle.tx_core.proofs.check.check.Goals as goal
 pub check_one-requires-clause-observed : goal.check_one-requires-clause-observed
 check_one-requires-clause-observed g c =
     rw (← c.at.ensures.cell, ← c.at.ensures.value, ← c.at.ensures.version)
-    (stands_grows _ _ _ _ _ _ c.loop-i.invariant.looks.1.grows (c.requires.observed c.loop-i.i c.at.ensures.in_range))
+    (seen_grows _ _ _ _ _ _ c.loop-i.invariant.looks.1.grows (λ h. rw (c.loop-i.invariant.looks.1.held) h) (c.requires.observed c.loop-i.i c.at.ensures.in_range))
 
 pub returns-in_err-check_one-clause-looks : goal.returns-in_err-check_one-clause-looks
 returns-in_err-check_one-clause-looks g c = looks_trans _ _ _ c.loop-i.invariant.looks c.in_err-check_one.ensures.looks

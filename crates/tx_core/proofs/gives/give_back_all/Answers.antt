@@ -1,5 +1,6 @@
-use Rattle.std.proofs.Common.{subst}
-use Rattle.tx_core.proofs.Giving.{IsGiving, giving_cell, giving_step, giving_ends}
+use Rattle.std.proofs.Common.{◌∙◌, length, subst}
+use Rattle.tx_core.proofs.Found.{grew_more}
+use Rattle.tx_core.proofs.Giving.{IsGiving, giving_cell, giving_step, giving_ends, no_more_listed}
 use Rattle.tx_core.proofs.gives.give_back_all.Goals as goal
 
 pub give_back-requires-clause-cell : goal.give_back-requires-clause-cell
@@ -14,3 +15,9 @@ loop-cell-preserved g c = giving_step _ _ _ c.loop-cell.pass c.give_back.new.pas
 -- at the end no cell is left to give back
 pub returns-clause-idle : goal.returns-clause-idle
 returns-clause-idle g c = (giving_ends _ _ _ c.loop-cell.pass (subst (λ es. IsGiving c.args.table.now c.args.pass.now c.args.held.entries c.loop-cell.pass es) c.in_default.ensures.entries.0 c.loop-cell.invariant)).0
+
+-- no more cells are listed than are held
+pub returns-clause-steps : goal.returns-clause-steps
+returns-clause-steps g c =
+    grew_more (length c.args.held.entries) _ _ _ (no_more_listed _ _ c.as_slice.ensures.once (λ d some. c.requires.holds d ∙ some))
+    (giving_ends _ _ _ c.loop-cell.pass (subst (λ es. IsGiving c.args.table.now c.args.pass.now c.args.held.entries c.loop-cell.pass es) c.in_default.ensures.entries.0 c.loop-cell.invariant)).1

@@ -1,4 +1,6 @@
-use Rattle.std.proofs.Common.{◌≡◌, ℕ, ◌*◌, ◌<◌, ◌≢◌, length, inl, inr, sym, ap, ◌∙◌, arith}
+use Rattle.std.proofs.Common.{◌≡◌, ℕ, ◌*◌, ◌<◌, ◌≢◌, List, length, inl, inr, sym, ap, ◌∙◌, arith}
+use Rattle.cell_table.specs.declared.view.Record.{Record}
+use Rattle.cell_table.specs.Writers.{writers_in, newest_in}
 use Rattle.std.proofs.lemmas.Bool.{cases_lt}
 use Rattle.cell_table.specs.Steps.{Validated}
 use Rattle.cell_table.specs.Pass.{PassState, trail_of}
@@ -23,3 +25,12 @@ returns-in-Err-clause-cause g c =
     ] in
     stopped_by c.args.pass.now.view c.args.version (length (trail_of c.args.pass.now)) c.args.cell c.in-Err.word (trail_of c.take_lock.new.pass) c.stop_at.result
     c.in-Err.ensures.found.2 c.requires.free (found_by_exchange _ _ _ _ _ (omega arith) c.in-Err.ensures.step) c.stop_at.ensures.held c.stop_at.ensures.newer above
+
+-- a pass with every caller number finds the version that was the newest one
+pub returns-in-Err-clause-sole : goal.returns-in-Err-clause-sole
+returns-in-Err-clause-sole g c = λ sole low.
+    let newest = c.requires.newest in
+    let alone = c.alone.ensures sole in
+    let known : newest_in (writers_in c.args.pass.now.books) c.args.cell ≡ c.args.from = ap (λ (ts : List (ℕ × Record _)). newest_in ts c.args.cell) (sym (alone.all newest.0 (omega (arith, low, newest.1)))) ∙ alone.newest c.args.cell c.args.from newest.0 newest.3 in
+    let found : c.in-Err.word ≡ 2 * newest_in (writers_in c.args.pass.now.books) c.args.cell = (c.in-Err.ensures.sole sole c.requires.free).1 in
+    absurd (c.in-Err.ensures.found.0 (found ∙ ap (λ (n : ℕ). 2 * n) known))

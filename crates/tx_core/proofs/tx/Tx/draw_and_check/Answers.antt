@@ -7,7 +7,8 @@ use Rattle.cell_table.specs.Steps.{Grows}
 use Rattle.cell_table.specs.Pass.{PassState}
 use Rattle.attempt_lists.specs.Cells.{cell_at, word_of}
 use Rattle.tx_core.specs.Tx.{Attempt}
-use Rattle.tx_core.proofs.Looks.{observes_grows, drawn_grows}
+use Rattle.tx_core.proofs.Looks.{observes_grows, drawn_grows, stands_unheld}
+use Rattle.tx_core.proofs.Providing.{provided_places, provided_commits}
 use Rattle.tx_core.proofs.AttemptFacts.{attempt_looks, attempt_commits, attempt_draws}
 use Rattle.tx_core.proofs.tx.Tx.draw_and_check.Goals as goal
 
@@ -15,25 +16,31 @@ use Rattle.tx_core.proofs.tx.Tx.draw_and_check.Goals as goal
 pub check-requires-clause-observed : goal.check-requires-clause-observed
 check-requires-clause-observed g c =
     let some : c.self.inside.pass.view.held ≢ [] = λ none. c.requires.holds (ap (λ (a : Attempt _ _). a.pass.view.held) (sym c.self.view_is) ∙ none) in
-    let drew = attempt_draws _ _ c.self.inside.pass c.draw-drawn.new.pass _ _ _ c.draw-drawn.result (attempt_commits _ _ _ _ _ _ _ c.self.invariant) c.draw-drawn.ensures.view c.draw-drawn.ensures.of c.draw-drawn.ensures.later.1 some in
+    let drew = attempt_draws _ _ c.self.inside.pass c.draw-drawn.new.pass _ _ _ c.draw-drawn.result (attempt_commits _ _ _ _ _ _ _ c.self.invariant.0) c.draw-drawn.ensures.view c.draw-drawn.ensures.of c.draw-drawn.ensures.later.1 some in
     drew.observed
 
 pub invariant_of-self : goal.invariant_of-self
 invariant_of-self g c =
     let some : c.self.inside.pass.view.held ≢ [] = λ none. c.requires.holds (ap (λ (a : Attempt _ _). a.pass.view.held) (sym c.self.view_is) ∙ none) in
-    let drew = attempt_draws _ _ c.self.inside.pass c.draw-drawn.new.pass _ _ _ c.draw-drawn.result (attempt_commits _ _ _ _ _ _ _ c.self.invariant) c.draw-drawn.ensures.view c.draw-drawn.ensures.of c.draw-drawn.ensures.later.1 some in
-    attempt_looks _ _ c.draw-drawn.new.pass c.check.new.pass _ _ _ _ c.in-Ok.ensures.looks c.in-Ok.ensures.of drew
+    let drew = attempt_draws _ _ c.self.inside.pass c.draw-drawn.new.pass _ _ _ c.draw-drawn.result (attempt_commits _ _ _ _ _ _ _ c.self.invariant.0) c.draw-drawn.ensures.view c.draw-drawn.ensures.of c.draw-drawn.ensures.later.1 some in
+    (
+      attempt_looks _ _ c.draw-drawn.new.pass c.check.new.pass _ _ _ _ c.in-Ok.ensures.looks c.in-Ok.ensures.of drew,
+      provided_places c.self.inside.pass c.check.new.pass _ _ _ _ _ _ (ap (λ (s : PassState _ _). s.places) c.in-Ok.ensures.looks.0 ∙ ap (λ (s : PassState _ _). s.places) c.draw-drawn.ensures.view) (provided_commits _ _ _ _ _ _ _ c.self.invariant.1),
+    )
 
 pub invariant_of-self-in-Err : goal.invariant_of-self-in-Err
 invariant_of-self-in-Err g c =
     let some : c.self.inside.pass.view.held ≢ [] = λ none. c.requires.holds (ap (λ (a : Attempt _ _). a.pass.view.held) (sym c.self.view_is) ∙ none) in
-    let drew = attempt_draws _ _ c.self.inside.pass c.draw-drawn.new.pass _ _ _ c.draw-drawn.result (attempt_commits _ _ _ _ _ _ _ c.self.invariant) c.draw-drawn.ensures.view c.draw-drawn.ensures.of c.draw-drawn.ensures.later.1 some in
-    attempt_looks _ _ c.draw-drawn.new.pass c.check.new.pass _ _ _ _ c.in-Err.ensures.looks c.in-Err.ensures.of drew
+    let drew = attempt_draws _ _ c.self.inside.pass c.draw-drawn.new.pass _ _ _ c.draw-drawn.result (attempt_commits _ _ _ _ _ _ _ c.self.invariant.0) c.draw-drawn.ensures.view c.draw-drawn.ensures.of c.draw-drawn.ensures.later.1 some in
+    (
+      attempt_looks _ _ c.draw-drawn.new.pass c.check.new.pass _ _ _ _ c.in-Err.ensures.looks c.in-Err.ensures.of drew,
+      provided_places c.self.inside.pass c.check.new.pass _ _ _ _ _ _ (ap (λ (s : PassState _ _). s.places) c.in-Err.ensures.looks.0 ∙ ap (λ (s : PassState _ _). s.places) c.draw-drawn.ensures.view) (provided_commits _ _ _ _ _ _ _ c.self.invariant.1),
+    )
 
 -- a held cell stands just before the draw by the draw itself, and the others by the validation
 pub returns-in-Ok-clause-check : goal.returns-in-Ok-clause-check
 returns-in-Ok-clause-check g c = rw (← c.self.view_is) (λ i lt.
-    let seen = c.self.invariant.observed i lt in
+    let seen = c.self.invariant.0.observed i lt in
     let view = ap (λ (s : PassState _ _). s.view) c.draw-drawn.ensures.view in
     let held : c.draw-drawn.new.pass.view.held ≡ c.self.inside.pass.view.held = ap (λ (v : View _ _). v.held) view in
     let known : c.draw-drawn.new.pass.view.known ≡ c.draw-drawn.result = ap (λ (v : View _ _). v.known) view in
@@ -41,13 +48,13 @@ returns-in-Ok-clause-check g c = rw (← c.self.view_is) (λ i lt.
     let later = c.draw-drawn.ensures.later.1 in
     let grown : Grows c.self.inside.pass.view c.draw-drawn.new.pass.view = rw view (drawn_grows c.self.inside.pass.view c.draw-drawn.result later) in
     elim (cases_Bool (has cell (cells_of c.self.inside.pass.view.held))) [
-      | inl mine ↦ observes_grows _ _ _ _ _ c.in-Ok.ensures.looks.1.grows (c.draw-drawn.ensures.held_stand cell (slice_index c.self.inside.reads.versions i) (word_of c.self.inside.reads.observations i) (c.self.invariant.pinned i lt mine) seen.reads)
+      | inl mine ↦ observes_grows _ _ _ _ _ c.in-Ok.ensures.looks.1.grows (c.draw-drawn.ensures.held_stand cell (slice_index c.self.inside.reads.versions i) (word_of c.self.inside.reads.observations i) (c.self.invariant.0.pinned i lt mine) seen.reads)
       | inr free ↦ (
         slice_index c.self.inside.reads.versions i,
         c.draw-drawn.new.pass.view.known,
         c.in-Ok.ensures.looks.1.grows.values _ (grown.values _ seen.reads),
         c.in-Ok.ensures.ok i lt (rw held free),
-        omega (arith, seen.low, c.self.invariant.begun.1),
+        omega (arith, (stands_unheld _ _ _ _ _ seen free).low, c.self.invariant.0.begun.1),
         omega (arith, known),
       )
     ])

@@ -1,11 +1,12 @@
-use Rattle.std.proofs.Common.{◌≡◌, ◌<◌, ◌++◌, ◌∷◌, [], length, None, ap, sym, ◌∙◌, arith}
+use Rattle.std.proofs.Common.{◌≡◌, false, ◌<◌, ◌++◌, ◌∷◌, [], length, None, ap, sym, ◌∙◌, arith}
 use Rattle.cell_table.specs.declared.view.View.{View}
 use Rattle.cell_table.specs.declared.view.Stage.TheVariants.{Open}
 use Rattle.cell_table.specs.Pass.{PassState}
 use Rattle.attempt_lists.specs.Cells.{word_at}
 use Rattle.tx_core.specs.Tx.{Attempt}
 use Rattle.tx_core.specs.Seen.{StandsAt}
-use Rattle.tx_core.proofs.Looks.{valued_is, looks_by}
+use Rattle.tx_core.proofs.Looks.{valued_is, looks_by, seen_stands}
+use Rattle.tx_core.proofs.Providing.{provided_moves}
 use Rattle.tx_core.proofs.AttemptFacts.{attempt_looks, attempt_widens, attempt_reserves}
 use Rattle.tx_core.proofs.Locking.{attempt_locks_new, others_takes, holds_only_takes, held_takes, takes_then_looks, among_inserted, word_at-new}
 use Rattle.tx_core.proofs.tx.Tx.lock_new.Goals as goal
@@ -17,10 +18,11 @@ stands_new g c =
     let at = c.in-Ok-lock_cell.ensures.version in
     let looks = looks_by c.lock_cell.new.pass c.look_value-value.new.pass _ c.look_value-value.ensures.view (valued_is _ _ _) in
     let same : c.reserve_lock.new.pass.view ≡ c.self.inside.pass.view = ap (λ (s : PassState _ _). s.view) c.in-Ok.ensures.pass in
-    let stage : c.lock_cell.new.pass.view.stage ≡ Open = t.stage ∙ ap (λ (v : View _ _). v.stage) same ∙ ap (λ (a : Attempt _ _). a.pass.view.stage) c.self.view_is ∙ c.requires.undrawn in
+    let before : c.self.inside.committing ≡ false = ap (λ (a : Attempt _ _). a.committing) c.self.view_is ∙ c.requires.before_commit in
+    let stage : c.lock_cell.new.pass.view.stage ≡ Open = t.stage ∙ ap (λ (v : View _ _). v.stage) same ∙ c.self.invariant.0.nothing_drawn before in
     let known : c.lock_cell.new.pass.view.known ≡ c.self.inside.pass.view.known = t.known ∙ ap (λ (v : View _ _). v.known) same in
     let there : c.args.cell < length c.self.inside.table.now.opening = rw (ap (λ (a : Attempt _ _). a.table) c.self.view_is) c.requires.cell in
-    let begun = c.self.invariant.begun.1 in
+    let begun = c.self.invariant.0.begun.1 in
     record {
       there = rw (c.look_value-value.ensures.of.2) there;
       reads = c.look_value-value.ensures.held_value c.in-Ok-lock_cell.version (rw t.held (among_inserted (c.args.cell, c.in-Ok-lock_cell.version) c.reserve_lock.new.pass.view.held)) (rw stage tt);
@@ -35,15 +37,23 @@ stands_new g c =
 pub invariant_of-self-in-Ok-lock_cell : goal.invariant_of-self-in-Ok-lock_cell
 invariant_of-self-in-Ok-lock_cell g c =
     let there : c.args.cell < length c.self.inside.table.now.opening = rw (ap (λ (a : Attempt _ _). a.table) c.self.view_is) c.requires.cell in
-    let stage : c.self.inside.pass.view.stage ≡ Open = rw (ap (λ (a : Attempt _ _). a.pass) c.self.view_is) c.requires.undrawn in
+    let before : c.self.inside.committing ≡ false = ap (λ (a : Attempt _ _). a.committing) c.self.view_is ∙ c.requires.before_commit in
+    let stage : c.self.inside.pass.view.stage ≡ Open = c.self.invariant.0.nothing_drawn before in
     let unobserved : word_at c.self.inside.reads.observations c.args.cell ≡ None = rw (ap (λ (a : Attempt _ _). a.observations) c.self.view_is) c.requires.unobserved in
     let t = takes_then_looks _ _ _ _ _ c.in-Ok-lock_cell.ensures.takes (looks_by c.lock_cell.new.pass c.look_value-value.new.pass _ c.look_value-value.ensures.view (valued_is _ _ _)) in
+    (
     attempt_locks_new _ _ c.self.inside.pass c.reserve_lock.new.pass c.look_value-value.new.pass c.self.inside.reads c.push_reserved-in-Ok-lock_cell.new.self _ c.self.inside.held c.reserve_lock.new.held c.push_reserved.new.self _ c.args.cell c.in-Ok-lock_cell.version c.look_value-value.result
-    c.self.invariant c.in-Ok.ensures.pass c.in-Ok.ensures.entries c.in-Ok.ensures.ok c.in-Ok.ensures.locks t c.look_value-value.ensures.of stage
-    c.push_reserved.ensures.entries c.push_reserved.ensures.reserved there unobserved
+    c.self.invariant.0 c.in-Ok.ensures.pass c.in-Ok.ensures.entries t c.look_value-value.ensures.of stage
+    c.push_reserved.ensures.entries there unobserved
     (c.push_reserved-in-Ok-lock_cell.ensures.observations ∙ ap (λ es. es ++ (c.args.cell, c.look_value-value.result) ∷ []) c.reserve.ensures.observations)
     (c.push_reserved-in-Ok-lock_cell.ensures.versions ∙ ap (λ vs. vs ++ c.in-Ok-lock_cell.version ∷ []) c.reserve.ensures.versions)
-    (stands_new g c)
+    (seen_stands _ _ _ _ _ (stands_new g c)) (λ early. c.in-Ok-lock_cell.ensures.version.0),
+    provided_moves _ _ _ c.push_reserved-in-Ok-lock_cell.new.self _ _ _ c.push_reserved.new.self _ _ _ c.self.invariant.1
+    (omega (arith, c.push_reserved.ensures.reserved, c.in-Ok.ensures.locks, ap (λ (s : PassState _ _). s.places) t.is))
+    (omega (arith, c.self.invariant.1.room before, c.in-Ok.ensures.ok, c.push_reserved.ensures.reserved, ap length c.parent.ensures.entries))
+    (omega (arith, c.self.invariant.1.spare_observations, c.in-Ok-reserve.ensures.ok, c.push_reserved-in-Ok-lock_cell.ensures.reserved)) c.self.invariant.1.spare_writes
+    (λ early. omega (arith, c.in-Ok.ensures.ok, c.push_reserved.ensures.reserved, ap length c.parent.ensures.entries)),
+    )
 
 pub returns-in-Ok-lock_cell-clause-observes : goal.returns-in-Ok-lock_cell-clause-observes
 returns-in-Ok-lock_cell-clause-observes g c = record {
@@ -54,10 +64,15 @@ returns-in-Ok-lock_cell-clause-observes g c = record {
 }
 
 pub invariant_of-self-in-Err : goal.invariant_of-self-in-Err
-invariant_of-self-in-Err g c =
-    attempt_looks _ _ _ c.lock_cell.new.pass _ _ _ _ c.in-Err.ensures.looks c.in-Err.ensures.of
-    (attempt_reserves _ _ _ _ c.reserve.new.self _ _ _ c.reserve.ensures.observations c.reserve.ensures.versions
-    (attempt_widens _ _ c.self.inside.pass c.reserve_lock.new.pass _ _ c.self.inside.held c.reserve_lock.new.held _ c.self.invariant c.in-Ok.ensures.pass c.in-Ok.ensures.entries (omega (arith, c.in-Ok.ensures.ok)) c.in-Ok.ensures.locks))
+invariant_of-self-in-Err g c = (
+  attempt_looks _ _ _ c.lock_cell.new.pass _ _ _ _ c.in-Err.ensures.looks c.in-Err.ensures.of
+      (attempt_reserves _ _ _ _ c.reserve.new.self _ _ _ c.reserve.ensures.observations c.reserve.ensures.versions
+      (attempt_widens _ _ c.self.inside.pass c.reserve_lock.new.pass _ _ c.self.inside.held c.reserve_lock.new.held _ c.self.invariant.0 c.in-Ok.ensures.pass c.in-Ok.ensures.entries)),
+  provided_moves _ _ _ c.reserve.new.self _ _ _ c.reserve_lock.new.held _ _ _ c.self.invariant.1
+      (rw (ap (λ (s : PassState _ _). s.places) c.in-Err.ensures.looks.0) c.in-Ok.ensures.locks)
+      (omega (arith, c.self.invariant.1.spare_locks, c.in-Ok.ensures.kept)) (omega (arith, c.self.invariant.1.spare_observations, c.in-Ok-reserve.ensures.ok)) c.self.invariant.1.spare_writes
+      (λ early. omega (arith, c.self.invariant.1.room early, c.in-Ok.ensures.kept)),
+)
 
 pub returns-in-Ok-lock_cell-clause-value : goal.returns-in-Ok-lock_cell-clause-value
 returns-in-Ok-lock_cell-clause-value g c =

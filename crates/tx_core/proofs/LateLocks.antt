@@ -1,0 +1,130 @@
+-- Locks of written cells, at the places that the writes reserved.
+use Rattle.std.proofs.Common.{◌≡◌, ◌≢◌, ℕ, zero, suc, ◌+◌, ◌-◌, ◌*◌, ◌<◌, ◌≤◌, eqb, Bool, true, false, List, [], ◌∷◌, ◌++◌, length, slice_index, if◌then◌else◌, None, IsSome, All, inl, inr, refl, sym, ap, ◌∙◌, arith}
+use Rattle.std.proofs.Math.Decide.{ℕ_discrete}
+use Rattle.std.proofs.lemmas.Bool.{cases_lt}
+use Rattle.std.proofs.lemmas.Bool.Decides.{nat_tests}
+use Rattle.std.specs.Map.{keys_of}
+use Rattle.cell_table.specs.Cells.{has}
+use Rattle.cell_table.specs.Rule.{cells_of}
+use Rattle.cell_table.specs.declared.view.Stage.TheVariants.{Open}
+use Rattle.cell_table.specs.Pass.{TableState, PassState, IsPassOf, IsHeld, trail_of}
+use Rattle.attempt_lists.specs.Cells.{Entries, Listed, word_at, cell_at}
+use Rattle.attempt_lists.specs.Levels.{Levels}
+use Rattle.attempt_lists.specs.Observed.{Observed}
+use Rattle.tx_core.specs.Causes.{GrewBy}
+use Rattle.tx_core.specs.Seen.{Takes, HoldsOnly, SameOthers}
+use Rattle.tx_core.specs.Tx.{IsAttempt}
+use Rattle.tx_core.proofs.Looks.{grows_trans}
+use Rattle.tx_core.proofs.Found.{grew_none, grew_more, grew_trans}
+use Rattle.tx_core.proofs.Locking.{attempt_locks_known, has_insert, no_entry}
+
+-- what holds of every cell of a list holds of the cell at a place
+pub cell_there : (P : ℕ → Type 0) (es : Entries) (i : ℕ) → All P (keys_of es) → i < length es → P (cell_at es i)
+cell_there P [] i all lt = absurd (omega arith)
+cell_there P (e ∷ es) zero all lt = all 0 0 (omega arith)
+cell_there P (e ∷ es) (suc i) all lt = cell_there P es i (λ k d l. all (suc k) d (omega arith)) (omega arith)
+
+module _ {M D : Type 0} where
+  pub kept_takes : (p q : PassState M D) (cell u c : ℕ) → Takes p q cell u → IsHeld p c → IsHeld q c
+  kept_takes p q cell u c t h = ap (λ l. has c (cells_of l)) t.held ∙ has_insert c cell u p.view.held ∙ grind (arith, nat_tests, h)
+
+module _ {M D : Type 0} (table : TableState M) (version : ℕ) where
+  -- a written cell is locked at a reserved place
+  pub attempt_locks_reserved : (p q : PassState M D) (reads : Observed) (writes : Levels) (held more : Listed) (cell u i : ℕ) → IsAttempt table p version reads writes held true → Takes p q cell u → IsPassOf table q → p.view.stage ≡ Open → more.entries ≡ held.entries ++ (cell, u) ∷ [] → i < length writes.parent → cell ≡ cell_at writes.parent i
+      → ((i : ℕ) → i < length reads.observations → cell_at reads.observations i ≡ cell → slice_index reads.versions i ≡ u)
+      → IsAttempt table q version reads writes more true
+  attempt_locks_reserved p q reads writes held more cell u i a t of stage pushed lt is at_u =
+      attempt_locks_known table version p p q reads writes held held more true cell u a refl refl t of stage pushed
+      (rw is (cell_there (λ c. c < length table.opening) writes.parent i a.written lt))
+      (λ r w. no_entry writes.parent cell i w lt (sym is))
+      at_u
+
+-- every cell of a list stands at a place, and the cell at a place is in the list
+pub place_of : (es : Entries) (c : ℕ) → IsSome (word_at es c) → (i : ℕ) × (i < length es) × (cell_at es i ≡ c)
+place_of [] c some = absurd (none some)
+  where
+    none : IsSome (word_at [] c) → ⊥
+    none h = cc
+place_of (e ∷ es) c some = elim (ℕ_discrete e.0 c) [
+  | yes here ↦ (0, omega arith, here)
+  | no away ↦ let rest = place_of es c (grind (arith, nat_tests, some, away)) in (suc rest.0, omega (arith, rest.1), rest.2)
+]
+
+pub word_there : (es : Entries) (i : ℕ) → i < length es → IsSome (word_at es (cell_at es i))
+word_there [] i lt = absurd (omega arith)
+word_there (e ∷ es) zero lt = grind (arith, nat_tests)
+word_there (e ∷ es) (suc i) lt = grind (arith, nat_tests, word_there es i (omega arith))
+
+module _ {M D : Type 0} where
+  pub holds_only_none : (p : PassState M D) → HoldsOnly p p
+  holds_only_none p = record { is = refl; grows = record { meaning = refl; opening = refl; total = refl; known = omega arith; values = λ t h. h; validations = λ t h. h }; books = refl; draws = refl; known = refl; stage = refl }
+
+  pub holds_only_trans : (p q r : PassState M D) → HoldsOnly p q → HoldsOnly q r → HoldsOnly p r
+  holds_only_trans p q r a b = record {
+    is = b.is ∙ ap (λ (s : PassState M D). record s { view = r.view; places = r.places }) a.is;
+    grows = grows_trans p.view q.view r.view a.grows b.grows;
+    books = b.books ∙ a.books;
+    draws = b.draws ∙ a.draws;
+    known = b.known ∙ a.known;
+    stage = b.stage ∙ a.stage;
+  }
+
+-- After n written cells were tried and m of them are held
+pub record IsLocking {M D : Type 0} (table : TableState M) (version : ℕ) (reads : Observed) (writes : Levels) (start : PassState M D) (room n m : ℕ) (p : PassState M D) (held : Listed) : Type 0 where
+  pub attempt : IsAttempt table p version reads writes held true
+  pub undrawn : p.view.stage ≡ Open
+  pub locked : (i : ℕ) → i < m → IsHeld p (cell_at writes.parent i)
+  pub pass : HoldsOnly start p
+  pub others : (c : ℕ) → word_at writes.parent c ≡ None → has c (cells_of p.view.held) ≡ has c (cells_of start.view.held)
+  pub kept : (c : ℕ) → IsHeld start c → IsHeld p c
+  pub places : held.reserved ≤ p.places
+  pub left : room ≤ held.reserved + n
+  pub grew : GrewBy (2 * n) (trail_of start) (trail_of p)
+
+module _ {M D : Type 0} (table : TableState M) (version : ℕ) (reads : Observed) (writes : Levels) (start : PassState M D) (room : ℕ) where
+  pub locking_begins : (held : Listed) → IsAttempt table start version reads writes held true → start.view.stage ≡ Open → held.reserved ≤ start.places → room ≤ held.reserved → IsLocking table version reads writes start room 0 0 start held
+  locking_begins held a stage places wide = record {
+    attempt = a;
+    undrawn = stage;
+    locked = λ i lt. absurd (omega arith);
+    pass = holds_only_none start;
+    others = λ c none. refl;
+    kept = λ c h. h;
+    places = places;
+    left = omega arith;
+    grew = grew_none (trail_of start);
+  }
+
+  -- one more cell was tried
+  pub locking_tries : (n m : ℕ) (p q : PassState M D) (held more : Listed) → IsLocking table version reads writes start room n m p held → n < length writes.parent → IsAttempt table q version reads writes more true → HoldsOnly p q → SameOthers p q (cell_at writes.parent n) → ((c : ℕ) → IsHeld p c → IsHeld q c) → more.reserved ≤ q.places → held.reserved ≤ more.reserved + 1 → GrewBy 2 (trail_of p) (trail_of q) → IsLocking table version reads writes start room (n + 1) m q more
+  locking_tries n m p q held more l lt a only same kept places used grew = record {
+    attempt = a;
+    undrawn = only.stage ∙ l.undrawn;
+    locked = λ i low. kept _ (l.locked i low);
+    pass = holds_only_trans start p q l.pass only;
+    others = λ c none. same c (λ is. not_there c none is) ∙ l.others c none;
+    kept = λ c h. kept c (l.kept c h);
+    places = places;
+    left = omega (arith, l.left, used);
+    grew = grew_more (2 * n + 2) _ _ _ (omega arith) (grew_trans (2 * n) 2 _ _ _ l.grew grew);
+  }
+    where
+      not_there : (c : ℕ) → word_at writes.parent c ≡ None → c ≡ cell_at writes.parent n → ⊥
+      not_there c none is = no_entry writes.parent c n none lt (sym is)
+
+  -- and is held
+  pub locking_holds : (n m : ℕ) (p : PassState M D) (held : Listed) → IsLocking table version reads writes start room n m p held → IsHeld p (cell_at writes.parent m) → IsLocking table version reads writes start room n (m + 1) p held
+  locking_holds n m p held l h = record {
+    attempt = l.attempt;
+    undrawn = l.undrawn;
+    locked = λ i low. elim (cases_lt i m) [
+      | inl before ↦ l.locked i before
+      | inr at ↦ let same : i ≡ m = omega arith in rw same h
+    ];
+    pass = l.pass;
+    others = l.others;
+    kept = l.kept;
+    places = l.places;
+    left = l.left;
+    grew = l.grew;
+  }

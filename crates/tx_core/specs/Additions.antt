@@ -1,0 +1,37 @@
+-- What is kept for the additions of an attempt.
+use Rattle.std.specs.Prelude.{◌≡◌, ℕ, ◌+◌, ◌*◌, ◌<◌, ◌≤◌, ◌^◌, Bool, false, List, [], ◌∷◌, length, nat_eq}
+use Rattle.std.specs.List.{IsDistinct}
+use Rattle.cell_table.specs.Pass.{PassState}
+use Rattle.attempt_lists.specs.Cells.{Listed}
+use Rattle.attempt_lists.specs.Levels.{Levels}
+use Rattle.attempt_lists.specs.Observed as lists
+use Rattle.attempt_lists.specs.Parts.{Waiting, waiting_of}
+use Rattle.tx_core.specs.declared.spare.Spare.{Spare}
+
+-- how many additions to these parts wait
+abbrev pub waiting_in : List Waiting → List ℕ → ℕ
+waiting_in additions [] = 0
+waiting_in additions (part ∷ parts) = length (waiting_of additions part) + waiting_in additions parts
+
+-- n places of each kind are kept
+abbrev pub HasSpare : Spare → ℕ → Type 0
+HasSpare spare n = (n ≤ spare.locks) × (n ≤ spare.observations) × (n ≤ spare.writes)
+
+-- for each addition to any parts there are two places of each kind
+abbrev pub HasTwoEach : Spare → List Waiting → Type 0
+HasTwoEach spare additions = (parts : List ℕ) → IsDistinct nat_eq parts → HasSpare spare (2 * waiting_in additions parts)
+
+-- n more places of each kind
+abbrev pub more_spare : ℕ → Spare → Spare
+more_spare n spare = record { locks = spare.locks + n; observations = spare.observations + n; writes = spare.writes + n }
+
+-- The room that the lists of an attempt have
+pub record IsProvided {M D : Type 0} (pass : PassState M D) (reads : lists.Observed) (writes : Levels) (held : Listed) (additions : List Waiting) (spare : Spare) (committing : Bool) : Type 0 where
+  pub locks : held.reserved ≤ pass.places
+  pub spare_locks : spare.locks ≤ held.reserved
+  pub spare_observations : spare.observations ≤ reads.reserved
+  pub spare_writes : spare.writes ≤ writes.reserved
+  pub few : (spare.locks < 2 ^ 32) × (spare.observations < 2 ^ 32) × (spare.writes < 2 ^ 32)
+  -- before the commit there is room for a lock of each cell that is written, beside what is kept for the additions
+  pub room : committing ≡ false → length writes.parent + spare.locks ≤ held.reserved
+  pub twice : committing ≡ false → HasTwoEach spare additions

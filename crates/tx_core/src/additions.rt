@@ -1,0 +1,107 @@
+//! What an attempt adds to parts of the structures when it commits.
+ghost use Rattle.std.specs.Prelude.{◌≡◌, ◌≢◌, ℕ, ◌+◌, ◌-◌, ◌*◌, ◌^◌, ◌<◌, ◌≤◌, [], ◌∷◌, ◌++◌, true, false, length, slice_index, is_some, Some, None, IsSome, IsNone, IsOk, IfSome, IfOk, IfErr, OnOk, OnErr, MatchOption, ◌⊎◌, if◌then◌else◌};
+ghost use Rattle.std.specs.Option.{option_or};
+
+use crate::gives::reserve_more_locks;
+use crate::spare::Spare;
+use crate::stop::TxState;
+use crate::tx::Tx;
+use cell_table::Meaning;
+use std::alloc::AllocError;
+
+impl Spare {
+    ghost use Rattle.tx_core.specs.Additions.{more_spare};
+
+    // Two more places of each kind.
+    fn two_more(self) -> Option<Spare>
+        ensures more { IfSome result (λ spare. spare ≡ more_spare 2 self) }
+        ensures few { IfSome result (λ spare. (spare.locks < 2 ^ 32) × (spare.observations < 2 ^ 32) × (spare.writes < 2 ^ 32)) }
+    {
+        Some(Spare {
+            locks: self.locks.checked_add(2)?,
+            observations: self.observations.checked_add(2)?,
+            writes: self.writes.checked_add(2)?,
+        })
+    }
+}
+
+impl<'a, M: Meaning> Tx<'a, M> {
+    ghost use Rattle.attempt_lists.specs.Parts.{waiting_of, ChangesOnly};
+    ghost use Rattle.tx_core.specs.declared.stop.TxState.TheVariants.{Running, Child, ChildStopped, Stopped};
+    ghost use Rattle.tx_core.specs.Additions.{HasSpare, HasTwoEach, more_spare};
+
+    /// What is true of every attempt before its commit: for each addition that waits two places of each kind are kept.
+    pub fn provided(&self)
+        ensures twice { self.now.committing ≡ false → HasTwoEach self.now.spare self.now.additions }
+        ensures each { self.now.committing ≡ false → (part : ℕ) → HasSpare self.now.spare (2 * length (waiting_of self.now.additions part)) }
+        ensures few { (self.now.spare.locks < 2 ^ 32) × (self.now.spare.observations < 2 ^ 32) × (self.now.spare.writes < 2 ^ 32) }
+    {
+        let _ = &self.version;
+    }
+
+    /// Adds a value to a part when the attempt commits. What placing it then needs is reserved now: two held cells, two
+    /// observations and two writes.
+    ///
+    /// After want of memory the state is `Stopped`, and nothing is added.
+    pub fn later(&mut self, part: u32, value: u64) -> Result<(), AllocError>
+        requires running { self.old.state ≡ Running }
+        requires before_commit { self.old.committing ≡ false }
+        ensures added { OnOk result (ChangesOnly self.old.additions self.new.additions part (waiting_of self.old.additions part ++ value ∷ [])) }
+        ensures ok { OnOk result (self.new ≡ record self.old { pass = self.new.pass; additions = self.new.additions; spare = more_spare 2 self.old.spare }) }
+        ensures stopped { OnErr result (self.new ≡ record self.old { pass = self.new.pass; state = Stopped }) }
+        ensures pass { self.new.pass ≡ record self.old.pass { places = self.new.pass.places } }
+    {
+        match self.add_later(part, value) {
+            Ok(()) => Ok(()),
+            Err(memory) => {
+                self.state = TxState::Stopped;
+                Err(memory)
+            }
+        }
+    }
+
+    // Reserves the places of one more addition, and adds it. The state stays.
+    fn add_later(&mut self, part: u32, value: u64) -> Result<(), AllocError>
+        requires before_commit { self.old.committing ≡ false }
+        ensures added { OnOk result (ChangesOnly self.old.additions self.new.additions part (waiting_of self.old.additions part ++ value ∷ [])) }
+        ensures ok { OnOk result (self.new ≡ record self.old { pass = self.new.pass; additions = self.new.additions; spare = more_spare 2 self.old.spare }) }
+        ensures refused { OnErr result (self.new ≡ record self.old { pass = self.new.pass }) }
+        ensures pass { self.new.pass ≡ record self.old.pass { places = self.new.pass.places } }
+    {
+        let Some(spare) = self.spare.two_more() else {
+            return Err(AllocError);
+        };
+        reserve_more_locks(&mut self.pass, &mut self.held, 2)?;
+        self.reads.reserve(2)?;
+        self.writes.reserve(2)?;
+        let alloc = *self.notes.allocator();
+        self.additions.later(alloc, part, value)?;
+        self.spare = spare;
+        Ok(())
+    }
+
+    /// How many additions to a part wait. Takes no memory.
+    pub fn pending(&self, part: u32) -> u64
+        ensures { result ≡ length (waiting_of self.now.additions part) }
+    {
+        self.additions.pending(part)
+    }
+
+    /// The i-th addition to a part among those that wait. Takes no memory.
+    pub fn pending_at(&self, part: u32, i: u64) -> u64
+        requires { i < length (waiting_of self.now.additions part) }
+        ensures { result ≡ slice_index (waiting_of self.now.additions part) i }
+    {
+        self.additions.pending_at(part, i)
+    }
+
+    /// Consumes the first addition to a part that waits. `None` comes exactly where none waits. The places that are kept
+    /// stay kept. Takes no memory.
+    pub fn take_later(&mut self, part: u32) -> Option<u64>
+        requires running { self.old.state ≡ Running }
+        ensures first { MatchOption result ((waiting_of self.old.additions part ≡ []) × (self.new ≡ self.old)) (λ value. (waiting_of self.old.additions part ≡ value ∷ waiting_of self.new.additions part) × ChangesOnly self.old.additions self.new.additions part (waiting_of self.new.additions part)) }
+        ensures same { self.new ≡ record self.old { additions = self.new.additions } }
+    {
+        self.additions.take_later(part)
+    }
+}
