@@ -5,7 +5,7 @@ ghost use Rattle.cell_table.specs.Rule.{cells_of, callers_of};
 ghost use Rattle.cell_table.specs.Steps.{Validated};
 ghost use Rattle.cell_table.specs.Pass.{IsPassOf, IsSole, trail_of};
 ghost use Rattle.attempt_lists.specs.Cells.{word_at, cell_at, word_of};
-ghost use Rattle.tx_core.specs.Causes.{IsCaused, IsCausedAt, GrewBy};
+ghost use Rattle.tx_core.specs.Causes.{IsCaused, IsAtObserved, IsFoundAt, IsCausedAt, GrewBy};
 ghost use Rattle.tx_core.specs.Seen.{LooksOnly, IsSeen};
 
 use crate::steps::still;
@@ -29,6 +29,7 @@ fn check_one<M: Meaning>(
     ensures looks { LooksOnly pass.old pass.new }
     ensures ok { OnOk result (has seen.cell (cells_of pass.old.view.held) ≡ false → Validated pass.new.view seen.cell seen.version pass.old.view.known) }
     ensures sole { IsSole pass.old → pass.old.seen ≤ version → IsOk result }
+    ensures place { IfErr result (λ stop. (has seen.cell (cells_of pass.old.view.held) ≡ false) × IsFoundAt seen.cell stop) }
     ensures steps { GrewBy 1 (trail_of pass.old) (trail_of pass.new) }
     ensures cause { IfErr result (IsCaused (callers_of pass.old.view.books) version (length (trail_of pass.old)) (trail_of pass.new)) }
 {
@@ -55,6 +56,7 @@ pub(crate) fn check<M: Meaning>(
     ensures looks { LooksOnly pass.old pass.new }
     ensures ok { OnOk result ((i : ℕ) → i < length reads.now.observations → has (cell_at reads.now.observations i) (cells_of pass.old.view.held) ≡ false → Validated pass.new.view (cell_at reads.now.observations i) (slice_index reads.now.versions i) pass.old.view.known) }
     ensures sole { IsSole pass.old → pass.old.seen ≤ version → IsOk result }
+    ensures place { IfErr result (IsAtObserved reads.now.observations pass.old.view.held) }
     ensures steps { GrewBy (length reads.now.observations) (trail_of pass.old) (trail_of pass.new) }
     ensures cause { IfErr result (IsCaused (callers_of pass.old.view.books) version (length (trail_of pass.old)) (trail_of pass.new)) }
 {

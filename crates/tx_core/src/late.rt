@@ -20,7 +20,7 @@ impl<'a, M: Meaning> Tx<'a, M> {
     ghost use Rattle.cell_table.specs.Pass.{IsSole, IsHeld, trail_of};
     ghost use Rattle.attempt_lists.specs.Cells.{word_at, word_of, cell_at, put};
     ghost use Rattle.tx_core.specs.declared.stop.TxState.TheVariants.{Running, Child, ChildStopped, Stopped};
-    ghost use Rattle.tx_core.specs.Causes.{CausedSince, FoundTwice, IsFoundAt, IsFound, GrewBy};
+    ghost use Rattle.tx_core.specs.Causes.{CausedSince, IsAtObserved, FoundTwice, IsFoundAt, IsFound, GrewBy};
     ghost use Rattle.tx_core.specs.Seen.{LooksOnly, HoldsOnly, KnowsMore, SameOthers};
     ghost use Rattle.tx_core.specs.Tx.{ObservedLate};
 
@@ -156,6 +156,7 @@ impl<'a, M: Meaning> Tx<'a, M> {
         ensures check { IfOk result (λ t. (i : ℕ) → i < length self.old.observations → Observes self.new.pass.view (cell_at self.old.observations i) (word_of self.old.observations i) t) }
         ensures same { OnOk result (self.new ≡ record self.old { pass = self.new.pass; committing = true }) }
         ensures stopped { IfErr result (λ stop. IsFound stop × (self.new ≡ record self.old { pass = self.new.pass; state = Stopped; committing = true })) }
+        ensures seen { IfErr result (IsAtObserved self.old.observations self.old.pass.view.held) }
         ensures cause { IfErr result (CausedSince (callers_of self.old.pass.view.books) self.old.version (length (trail_of self.old.pass)) (trail_of self.new.pass)) }
         ensures knows { KnowsMore self.old.pass self.new.pass }
         ensures steps { GrewBy (1 + length self.old.observations) (trail_of self.old.pass) (trail_of self.new.pass) }

@@ -52,7 +52,7 @@ impl<'a, M: Meaning> Tx<'a, M> {
     ghost use Rattle.attempt_lists.specs.Parts.{waiting_of};
     ghost use Rattle.tx_core.specs.declared.stop.Stop.TheVariants.{Held, Newer, Memory};
     ghost use Rattle.tx_core.specs.declared.stop.TxState.TheVariants.{Running, Child, ChildStopped, Stopped};
-    ghost use Rattle.tx_core.specs.Causes.{CausedSince, IsOfCell, IsFound, GrewBy};
+    ghost use Rattle.tx_core.specs.Causes.{CausedSince, IsAtObserved, IsOfCell, IsFound, GrewBy};
     ghost use Rattle.tx_core.specs.Seen.{LooksOnly, StandsAt, HoldsOnly, SameOthers};
     ghost use Rattle.tx_core.specs.Tx.{Observed};
     ghost use Rattle.tx_core.specs.Parts.{Shows};
@@ -263,6 +263,7 @@ impl<'a, M: Meaning> Tx<'a, M> {
         ensures check { IfOk result (λ d. (i : ℕ) → i < length self.old.observations → Observes self.new.pass.view (cell_at self.old.observations i) (word_of self.old.observations i) (d - 1)) }
         ensures same { OnOk result (self.new ≡ record self.old { pass = self.new.pass; committing = true }) }
         ensures stopped { IfErr result (λ stop. IsFound stop × (self.new ≡ record self.old { pass = self.new.pass; state = Stopped; committing = true })) }
+        ensures seen { IfErr result (IsAtObserved self.old.observations self.old.pass.view.held) }
         ensures cause { IfErr result (CausedSince (callers_of self.old.pass.view.books) self.old.version (length (trail_of self.old.pass)) (trail_of self.new.pass)) }
         ensures sole { IsSole self.old.pass → IsOk result }
         ensures draws { self.new.pass.view.draws ≡ self.old.pass.view.draws - 1 }

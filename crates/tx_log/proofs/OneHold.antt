@@ -33,7 +33,7 @@ module _ {M D : Type 0} where
     pub is : b ≡ record a { pass = b.pass; observations = b.observations; versions = b.versions; spare = b.spare; committing = true }
 
   -- the attempt a with what a lock may change taken from t
-  abbrev locked_as : Attempt M D → Attempt M D → Attempt M D
+  abbrev pub locked_as : Attempt M D → Attempt M D → Attempt M D
   locked_as a t = record a { pass = t.pass; observations = t.observations; versions = t.versions; spare = t.spare; committing = true }
 
   pub late_hold_is : (a b : Attempt M D) (cell x : ℕ)
@@ -49,6 +49,10 @@ module _ {M D : Type 0} where
         | inl none ↦ let o = new is none.0 none.1 in let sp : b.spare ≡ record a.spare { locks = a.spare.locks - 1; observations = a.spare.observations - 1 } = ap (λ (t : Attempt M D). t.spare) o.is in record { used = rw sp (record { locks = omega arith; observations = omega arith; writes = omega arith }); seen = inr (x, ap (λ (t : Attempt M D). t.observations) o.is); is = o.is ∙ sym (ap (locked_as a) o.is) }
         | inr some ↦ let e = known is some in let sp : b.spare ≡ record a.spare { locks = a.spare.locks - 1 } = ap (λ (t : Attempt M D). t.spare) e in record { used = rw sp (record { locks = omega arith; observations = omega arith; writes = omega arith }); seen = inl (ap (λ (t : Attempt M D). t.observations) e); is = e ∙ sym (ap (locked_as a) e) }
       ]
+
+  -- then all that was observed was validated
+  pub locked_and_checked : (a b d : Attempt M D) (cell : ℕ) → IsLateHold a b cell → d ≡ record b { pass = d.pass; committing = true } → d ≡ locked_as a d
+  locked_and_checked a b d cell late checked = let e = checked ∙ ap (λ (t : Attempt M D). record t { pass = d.pass; committing = true }) late.is in e ∙ sym (ap (locked_as a) e)
 
   -- the lock, and then a write of the cell
   pub touches_late : (P : ℕ → Type 0) (a b c : Attempt M D) (cell x : ℕ) → P cell → IsLateHold a b cell → SameOthers a.pass b.pass cell → c.observations ≡ b.observations → c.writes ≡ put b.writes cell x → c.pass ≡ b.pass → TouchesOnly P a c

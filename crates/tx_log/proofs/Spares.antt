@@ -1,12 +1,11 @@
--- What is kept for the additions to one part.
-use Rattle.std.proofs.Common.{◌≡◌, ℕ, ◌+◌, ◌*◌, ◌<◌, ◌≤◌, List, [], ◌∷◌, length, arith}
-use Rattle.std.specs.Prelude.{nat_eq}
-use Rattle.std.proofs.lemmas.Map.Keys.{IsDistinct-from_apart}
-use Rattle.attempt_lists.specs.Parts.{Waiting, waiting_of}
-use Rattle.tx_core.specs.Additions.{HasSpare, HasTwoEach}
+-- The places that a lock of the end and the placing of the entries use.
+use Rattle.std.proofs.Common.{ℕ, ◌+◌, ◌*◌, ◌<◌, ◌≤◌, arith}
 use Rattle.tx_core.specs.declared.spare.Spare.{Spare}
+use Rattle.tx_log.specs.Placing.{UsesAtMost}
 
-pub two_each : (spare : Spare) (additions : List Waiting) (part : ℕ) → HasTwoEach spare additions → HasSpare spare (2 * length (waiting_of additions part))
-two_each spare additions part each =
-    let h = each (part ∷ []) (IsDistinct-from_apart nat_eq (part ∷ []) (λ i j d lt in_range. absurd (omega arith))) in
-    (omega (arith, h.0), omega (arith, h.1), omega (arith, h.2))
+pub used_both : (a b d : Spare) (n : ℕ) → 0 < n → UsesAtMost 1 0 a b → UsesAtMost n (n + 1) b d → UsesAtMost (2 * n) (2 * n) a d
+used_both a b d n some first next = record {
+  locks = omega (arith, some, first.locks, next.locks);
+  observations = omega (arith, some, first.observations, next.observations);
+  writes = omega (arith, some, first.writes, next.writes);
+}
