@@ -37,6 +37,7 @@ impl<'a, M: Meaning> Tx<'a, M> {
         ensures pass { HoldsOnly self.old.pass self.new.pass }
         ensures others { SameOthers self.old.pass self.new.pass cell }
         ensures steps { GrewBy 3 (trail_of self.old.pass) (trail_of self.new.pass) }
+        ensures sole { IsSole self.old.pass → IfErr result (λ stop. stop ≡ Memory) }
     {
         match self.take_hold(cell) {
             Ok(value) => Ok(value),
@@ -62,6 +63,7 @@ impl<'a, M: Meaning> Tx<'a, M> {
         ensures pass { HoldsOnly self.old.pass self.new.pass }
         ensures others { SameOthers self.old.pass self.new.pass cell }
         ensures steps { GrewBy 3 (trail_of self.old.pass) (trail_of self.new.pass) }
+        ensures sole { IsSole self.old.pass → IfErr result (λ stop. stop ≡ Memory) }
     {
         match self.take_hold(cell) {
             Ok(value) => Ok(value),
@@ -85,6 +87,7 @@ impl<'a, M: Meaning> Tx<'a, M> {
         ensures pass { HoldsOnly self.old.pass self.new.pass }
         ensures others { SameOthers self.old.pass self.new.pass cell }
         ensures steps { GrewBy 3 (trail_of self.old.pass) (trail_of self.new.pass) }
+        ensures sole { IsSole self.old.pass → IfErr result (λ stop. stop ≡ Memory) }
     {
         if self.held.place(cell).is_some() {
             return Ok(self.own(cell));
@@ -124,6 +127,7 @@ impl<'a, M: Meaning> Tx<'a, M> {
         ensures pass { HoldsOnly self.old.pass self.new.pass }
         ensures others { SameOthers self.old.pass self.new.pass cell }
         ensures steps { GrewBy 2 (trail_of self.old.pass) (trail_of self.new.pass) }
+        ensures sole { IsSole self.old.pass → IfErr result (λ stop. stop ≡ Memory) }
     {
         let promised = self.writes.parent().len() + self.spare.locks as usize;
         let Ok(()) = reserve_lock(&mut self.pass, &mut self.held, promised) else {
@@ -153,6 +157,7 @@ impl<'a, M: Meaning> Tx<'a, M> {
         ensures pass { HoldsOnly self.old.pass self.new.pass }
         ensures others { SameOthers self.old.pass self.new.pass cell }
         ensures steps { GrewBy 3 (trail_of self.old.pass) (trail_of self.new.pass) }
+        ensures sole { IsSole self.old.pass → IfErr result (λ stop. stop ≡ Memory) }
     {
         let promised = self.writes.parent().len() + self.spare.locks as usize;
         let Ok(()) = reserve_lock(&mut self.pass, &mut self.held, promised) else {
