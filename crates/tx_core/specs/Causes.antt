@@ -1,8 +1,6 @@
 -- Why an attempt is stopped, by the steps in the trail.
 use Rattle.std.specs.Prelude.{◌≡◌, ℕ, ◌+◌, ◌*◌, ◌<◌, ◌≤◌, false, ◌⊎◌, List, ◌++◌, length, slice_get, Some, IsSome}
 use Rattle.cell_table.specs.Cells.{has}
-use Rattle.cell_table.specs.Rule.{cells_of}
-use Rattle.attempt_lists.specs.Cells.{cell_at}
 use Rattle.cell_table.specs.declared.view.Event.{Event}
 use Rattle.cell_table.specs.declared.view.Event.TheVariants.{LockLoaded, LockExchanged}
 use Rattle.attempt_lists.specs.Cells.{Entries, word_at}
@@ -41,10 +39,6 @@ IsCausedAt cell callers version n trail stop = CausedSince callers version n tra
 -- the stop was found at a cell of the list
 abbrev pub IsOfOne : Entries → Stop → Type 0
 IsOfOne entries stop = (c : ℕ) × IsSome (word_at entries c) × IsFoundAt c stop
-
--- the stop was found at the cell of one of these observations, which isn't held
-abbrev pub IsAtObserved : List (ℕ × ℕ) → List (ℕ × ℕ) → Stop → Type 0
-IsAtObserved observations held stop = (i : ℕ) × (i < length observations) × (has (cell_at observations i) (cells_of held) ≡ false) × IsFoundAt (cell_at observations i) stop
 
 -- it is not want of memory
 abbrev pub IsFound : Stop → Type 0

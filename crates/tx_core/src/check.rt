@@ -29,7 +29,6 @@ fn check_one<M: Meaning>(
     ensures looks { LooksOnly pass.old pass.new }
     ensures ok { OnOk result (has seen.cell (cells_of pass.old.view.held) ≡ false → Validated pass.new.view seen.cell seen.version pass.old.view.known) }
     ensures sole { IsSole pass.old → pass.old.seen ≤ version → IsOk result }
-    ensures place { IfErr result (λ stop. (has seen.cell (cells_of pass.old.view.held) ≡ false) × IsFoundAt seen.cell stop) }
     ensures steps { GrewBy 1 (trail_of pass.old) (trail_of pass.new) }
     ensures free { OnErr result (has seen.cell (cells_of pass.old.view.held) ≡ false) }
     ensures cause { IfErr result (IsCausedAt seen.cell (callers_of pass.old.view.books) version (length (trail_of pass.old)) (trail_of pass.new)) }
@@ -57,7 +56,6 @@ pub(crate) fn check<M: Meaning>(
     ensures looks { LooksOnly pass.old pass.new }
     ensures ok { OnOk result ((i : ℕ) → i < length reads.now.observations → has (cell_at reads.now.observations i) (cells_of pass.old.view.held) ≡ false → Validated pass.new.view (cell_at reads.now.observations i) (slice_index reads.now.versions i) pass.old.view.known) }
     ensures sole { IsSole pass.old → pass.old.seen ≤ version → IsOk result }
-    ensures place { IfErr result (IsAtObserved reads.now.observations pass.old.view.held) }
     ensures steps { GrewBy (length reads.now.observations) (trail_of pass.old) (trail_of pass.new) }
     ensures first { IfErr result (IsFirstChanged pass.new.view reads.now.observations reads.now.versions) }
     ensures cause { IfErr result (IsCaused (callers_of pass.old.view.books) version (length (trail_of pass.old)) (trail_of pass.new)) }

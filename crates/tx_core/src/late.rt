@@ -156,7 +156,6 @@ impl<'a, M: Meaning> Tx<'a, M> {
         ensures check { IfOk result (λ t. (i : ℕ) → i < length self.old.observations → Observes self.new.pass.view (cell_at self.old.observations i) (word_of self.old.observations i) t) }
         ensures same { OnOk result (self.new ≡ record self.old { pass = self.new.pass; committing = true }) }
         ensures stopped { IfErr result (λ stop. IsFound stop × (self.new ≡ record self.old { pass = self.new.pass; state = Stopped; committing = true })) }
-        ensures seen { IfErr result (IsAtObserved self.old.observations self.old.pass.view.held) }
         ensures cause { IfErr result (CausedSince (callers_of self.old.pass.view.books) self.old.version (length (trail_of self.old.pass)) (trail_of self.new.pass)) }
         ensures first { IfErr result (IsFirstChanged self.new.pass.view self.old.observations self.old.versions) }
         ensures knows { KnowsMore self.old.pass self.new.pass }

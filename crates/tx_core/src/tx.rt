@@ -263,7 +263,6 @@ impl<'a, M: Meaning> Tx<'a, M> {
         ensures check { IfOk result (λ d. (i : ℕ) → i < length self.old.observations → Observes self.new.pass.view (cell_at self.old.observations i) (word_of self.old.observations i) (d - 1)) }
         ensures same { OnOk result (self.new ≡ record self.old { pass = self.new.pass; committing = true }) }
         ensures stopped { IfErr result (λ stop. IsFound stop × (self.new ≡ record self.old { pass = self.new.pass; state = Stopped; committing = true })) }
-        ensures seen { IfErr result (IsAtObserved self.old.observations self.old.pass.view.held) }
         ensures cause { IfErr result (CausedSince (callers_of self.old.pass.view.books) self.old.version (length (trail_of self.old.pass)) (trail_of self.new.pass)) }
         ensures first { IfErr result (IsFirstChanged self.new.pass.view self.old.observations self.old.versions) }
         ensures sole { IsSole self.old.pass → IsOk result }
