@@ -5,13 +5,15 @@ use Rattle.std.specs.Option.{option_or}
 use Rattle.std.proofs.lemmas.Bool.Decides.{nat_tests}
 use Rattle.cell_table.specs.Cells.{has}
 use Rattle.cell_table.specs.Rule.{cells_of}
-use Rattle.cell_table.specs.Pass.{PassState}
+use mathlib.Core.Logic.{dite}
+use native.Mathlib.Decide.{ℕ_discrete}
+use Rattle.cell_table.specs.Pass.{PassState, IsHeld}
 use Rattle.attempt_lists.specs.Cells.{Entries, word_at, put}
 use Rattle.attempt_lists.proofs.LaidOver.{word_at-put}
 use Rattle.tx_core.specs.Seen.{SameOthers}
 use Rattle.tx_core.specs.Tx.{Attempt, ObservedLate}
 use Rattle.tx_log.specs.Calls.{TouchesOnly}
-use Rattle.tx_log.specs.Placing.{UsesAtMost}
+use Rattle.tx_log.specs.Placing.{UsesAtMost, KeepsHeld, HoldsWrites}
 
 known_or_not : (w o : Option ℕ) → ((w ≡ None) × (o ≡ None)) ⊎ IsSome (option_or w o)
 known_or_not (Some x) o = inr refl
@@ -37,10 +39,10 @@ module _ {M D : Type 0} where
   locked_as a t = record a { pass = t.pass; observations = t.observations; versions = t.versions; spare = t.spare; committing = true }
 
   pub late_hold_is : (a b : Attempt M D) (cell x : ℕ)
-    → (has cell (cells_of a.pass.view.held) ≡ true → b ≡ record a { committing = true })
-    → (has cell (cells_of a.pass.view.held) ≡ false → IsSome (option_or (word_at a.writes cell) (word_at a.observations cell)) → b ≡ record a { pass = b.pass; spare = record a.spare { locks = a.spare.locks - 1 }; committing = true })
-    → (has cell (cells_of a.pass.view.held) ≡ false → word_at a.writes cell ≡ None → word_at a.observations cell ≡ None → ObservedLate a b cell x)
-    → IsLateHold a b cell
+      → (has cell (cells_of a.pass.view.held) ≡ true → b ≡ record a { committing = true })
+      → (has cell (cells_of a.pass.view.held) ≡ false → IsSome (option_or (word_at a.writes cell) (word_at a.observations cell)) → b ≡ record a { pass = b.pass; spare = record a.spare { locks = a.spare.locks - 1 }; committing = true })
+      → (has cell (cells_of a.pass.view.held) ≡ false → word_at a.writes cell ≡ None → word_at a.observations cell ≡ None → ObservedLate a b cell x)
+      → IsLateHold a b cell
   late_hold_is a b cell x already known new = by (has cell (cells_of a.pass.view.held)) refl
     where
       by : (h : Bool) → has cell (cells_of a.pass.view.held) ≡ h → IsLateHold a b cell
@@ -49,6 +51,17 @@ module _ {M D : Type 0} where
         | inl none ↦ let o = new is none.0 none.1 in let sp : b.spare ≡ record a.spare { locks = a.spare.locks - 1; observations = a.spare.observations - 1 } = ap (λ (t : Attempt M D). t.spare) o.is in record { used = rw sp (record { locks = omega arith; observations = omega arith; writes = omega arith }); seen = inr (x, ap (λ (t : Attempt M D). t.observations) o.is); is = o.is ∙ sym (ap (locked_as a) o.is) }
         | inr some ↦ let e = known is some in let sp : b.spare ≡ record a.spare { locks = a.spare.locks - 1 } = ap (λ (t : Attempt M D). t.spare) e in record { used = rw sp (record { locks = omega arith; observations = omega arith; writes = omega arith }); seen = inl (ap (λ (t : Attempt M D). t.observations) e); is = e ∙ sym (ap (locked_as a) e) }
       ]
+
+  -- the other cells are held as before, and this one is held
+  pub keeps_held : (a b : Attempt M D) (cell : ℕ) → SameOthers a.pass b.pass cell → IsHeld b.pass cell → KeepsHeld a b
+  keeps_held a b cell others held c was = dite (ℕ_discrete c cell) (λ same. rw same held) (λ apart. others c apart ∙ was)
+
+  pub holds_late : (a b : Attempt M D) (cell : ℕ) → IsLateHold a b cell → SameOthers a.pass b.pass cell → IsHeld b.pass cell → HoldsWrites a → HoldsWrites b
+  holds_late a b cell late others held all c some = keeps_held a b cell others held c (all c (rw (ap (λ (t : Attempt M D). word_at t.writes c) late.is) at some))
+
+  -- one more cell that is held is written
+  pub holds_put : (b d : Attempt M D) (cell x : ℕ) → HoldsWrites b → IsHeld b.pass cell → d.writes ≡ put b.writes cell x → d.pass ≡ b.pass → HoldsWrites d
+  holds_put b d cell x all held ws ps c some = rw ps (dite (ℕ_discrete c cell) (λ same. rw same held) (λ apart. all c (rw (ap (λ (w : Entries). word_at w c) ws ∙ put_other b.writes cell x c (λ same. apart (sym same))) at some)))
 
   -- then all that was observed was validated
   pub locked_and_checked : (a b d : Attempt M D) (cell : ℕ) → IsLateHold a b cell → d ≡ record b { pass = d.pass; committing = true } → d ≡ locked_as a d

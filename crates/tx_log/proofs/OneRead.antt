@@ -15,10 +15,10 @@ module _ {M D : Type 0} where
   Reading a b cell x = (b ≡ a) ⊎ Observed a b cell x
 
   pub reading_is : {R : ℕ → Type 0} (a b : Attempt M D) (cell x : ℕ)
-    → ((y : ℕ) → word_at a.writes cell ≡ Some y → R y × (b ≡ a))
-    → ((y : ℕ) → word_at a.writes cell ≡ None → word_at a.observations cell ≡ Some y → R y × (b ≡ a))
-    → (word_at a.writes cell ≡ None → word_at a.observations cell ≡ None → Observed a b cell x)
-    → Reading a b cell x
+      → ((y : ℕ) → word_at a.writes cell ≡ Some y → R y × (b ≡ a))
+      → ((y : ℕ) → word_at a.writes cell ≡ None → word_at a.observations cell ≡ Some y → R y × (b ≡ a))
+      → (word_at a.writes cell ≡ None → word_at a.observations cell ≡ None → Observed a b cell x)
+      → Reading a b cell x
   reading_is {R} a b cell x own seen new = by (word_at a.writes cell) (word_at a.observations cell) refl refl
     where
       by : (w o : Option ℕ) → word_at a.writes cell ≡ w → word_at a.observations cell ≡ o → Reading a b cell x

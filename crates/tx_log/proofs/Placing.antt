@@ -70,14 +70,16 @@ module _ (log : LogPart) where
         | inr high ↦ placed_there cells first xs (log.end + 1 + i) (omega arith) (omega (arith, long)) (omega (arith, is.in_table))
       ]) in
       let values : values_in log (appended cells xs) ≡ values_in log cells ++ xs =
-        rw long (rw (drop-set-lt (log.end + 1) (placed cells first xs) log.end (length_in log cells + length xs) (omega arith), drop-placed cells (log.end + 1) (length_in log cells) xs)
-        (values-placed (drop (log.end + 1) cells) (length_in log cells) xs (omega (arith, length-drop (log.end + 1) cells, is.in_table)))) in
-      (record {
-        in_table = omega (arith, sized, is.in_table);
-        within = omega (arith, long);
-        there = there;
-        free = λ i far lt. word i ∙ placed_other cells first xs (log.end + 1 + i) (inr (omega (arith, long))) ∙ is.free i (omega (arith, long)) lt;
-      }, values)
+      rw long (rw (drop-set-lt (log.end + 1) (placed cells first xs) log.end (length_in log cells + length xs) (omega arith), drop-placed cells (log.end + 1) (length_in log cells) xs)
+      (values-placed (drop (log.end + 1) cells) (length_in log cells) xs (omega (arith, length-drop (log.end + 1) cells, is.in_table)))) in (
+        record {
+          in_table = omega (arith, sized, is.in_table);
+          within = omega (arith, long);
+          there = there;
+          free = λ i far lt. word i ∙ placed_other cells first xs (log.end + 1 + i) (inr (omega (arith, long))) ∙ is.free i (omega (arith, long)) lt;
+        },
+        values,
+      )
     where
       below : (i n : ℕ) → (i < n) ⊎ (n ≤ i)
       below i n = grind arith

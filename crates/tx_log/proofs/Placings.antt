@@ -20,7 +20,7 @@ use Rattle.tx_core.proofs.Found.{grew_trans, grew_none, grew_more}
 use Rattle.tx_log.specs.declared.part.LogPart.{LogPart}
 use Rattle.tx_log.specs.Calls.{TouchesOnly, waiting}
 use Rattle.tx_log.specs.Log.{IsLog, length_in, values_in}
-use Rattle.tx_log.specs.Placing.{UsesAtMost, KeepsOthers, IsFrom, IsEndOrFrom, IsUnseen}
+use Rattle.tx_log.specs.Placing.{UsesAtMost, KeepsOthers, KeepsHeld, HoldsWrites, IsFrom, IsEndOrFrom, IsUnseen}
 use Rattle.tx_log.proofs.Placing.{placed, placed-push, appended, log_appended}
 use Rattle.tx_log.proofs.OneHold.{put_other}
 use Rattle.tx_log.proofs.Touching.{touches_none, touches_weaker, touches_trans}
@@ -53,6 +53,8 @@ module _ {M D : Type 0} where
       pub same : b ≡ placed_as a b
       pub touches : TouchesOnly (IsFrom log first (length taken)) a b
       pub others : KeepsOthers log.part a.additions b.additions
+      pub kept : KeepsHeld a b
+      pub writes_held : HoldsWrites a → HoldsWrites b
       pub used : UsesAtMost (length taken) (length taken) a.spare b.spare
       pub pass : HoldsOnly a.pass b.pass
       pub grew : GrewBy (3 * length taken) (trail_of a.pass) (trail_of b.pass)
@@ -66,6 +68,8 @@ module _ {M D : Type 0} where
       same = refl;
       touches = touches_none _ a a refl refl refl;
       others = record { others = λ q off. refl; marked = λ q. refl };
+      kept = λ c h. h;
+      writes_held = λ h. h;
       used = record { locks = omega arith; observations = omega arith; writes = omega arith };
       pass = holds_only_none a.pass;
       grew = grew_none (trail_of a.pass);
@@ -100,18 +104,19 @@ module _ {M D : Type 0} where
       in_more : (more : Entries) → Each (λ o. P o.0) more → word_at more cell ≡ None
       in_more [] each = refl
       in_more (o ∷ os) each = let apart : o.0 ≢ cell = λ same. off (subst P same each.0) in grind (arith, nat_tests, in_more os each.1, apart)
+
       by : (os : Entries) → word_at os cell ≡ None → word_at (os ++ t.observed.0) cell ≡ None
       by [] e = in_more t.observed.0 t.observed.2
       by (o ∷ os) e = grind (arith, nat_tests, e, by os (grind (arith, nat_tests, e)))
 
   module _ (log : LogPart) where
     pub placing_step : (first : ℕ) (a b m d : Attempt M D) (place v : ℕ) → IsPlacing log first a b place
-      → m ≡ record b { additions = m.additions } → waiting log b ≡ v ∷ waiting log m → ChangesOnly b.additions m.additions log.part (waiting log m)
-      → ((cells : List ℕ) → after cells d.writes ≡ slice_set (after cells m.writes) (log.end + 1 + place) (v + 1))
-      → d ≡ record m { pass = d.pass; state = d.state; observations = d.observations; versions = d.versions; writes = d.writes; spare = d.spare; committing = d.committing }
-      → d.state ≡ m.state → TouchesOnly (λ c. c ≡ log.end + 1 + place) m d → UsesAtMost 1 1 m.spare d.spare → HoldsOnly m.pass d.pass → GrewBy 3 (trail_of m.pass) (trail_of d.pass)
-      → IsPlacing log first a d (place + 1)
-    placing_step first a b m d place v p took waits changes laid same state touches used pass grew =
+        → m ≡ record b { additions = m.additions } → waiting log b ≡ v ∷ waiting log m → ChangesOnly b.additions m.additions log.part (waiting log m)
+        → ((cells : List ℕ) → after cells d.writes ≡ slice_set (after cells m.writes) (log.end + 1 + place) (v + 1))
+        → d ≡ record m { pass = d.pass; state = d.state; observations = d.observations; versions = d.versions; writes = d.writes; spare = d.spare; committing = d.committing }
+        → d.state ≡ m.state → TouchesOnly (λ c. c ≡ log.end + 1 + place) m d → KeepsHeld m d → (HoldsWrites m → HoldsWrites d) → UsesAtMost 1 1 m.spare d.spare → HoldsOnly m.pass d.pass → GrewBy 3 (trail_of m.pass) (trail_of d.pass)
+        → IsPlacing log first a d (place + 1)
+    placing_step first a b m d place v p took waits changes laid same state touches kept writes_held used pass grew =
         let additions : d.additions ≡ m.additions = ap (λ (s : Attempt M D). s.additions) same in
         let ps : m.pass ≡ b.pass = ap (λ (s : Attempt M D). s.pass) took in
         let ws : m.writes ≡ b.writes = ap (λ (s : Attempt M D). s.writes) took in
@@ -124,18 +129,20 @@ module _ {M D : Type 0} where
           waits = p.waits ∙ ap (λ (w : List ℕ). p.taken ++ w) waits ∙ sym (append_assoc p.taken (v ∷ []) (waiting log m)) ∙ ap (λ (w : List Waiting). (p.taken ++ v ∷ []) ++ waiting_of w log.part) (sym additions);
           at = omega (arith, p.at, more);
           laid = λ cells. laid cells ∙ ap (λ (w : Entries). set (after cells w) (log.end + 1 + place) (v + 1)) ws ∙ ap (λ (w : List ℕ). set w (log.end + 1 + place) (v + 1)) (p.laid cells)
-            ∙ ap (λ n. set (placed (after cells a.writes) (log.end + 1 + first) p.taken) n (v + 1)) (let e : log.end + 1 + place ≡ log.end + 1 + first + length p.taken = omega (arith, p.at) in e)
-            ∙ sym (placed-push (after cells a.writes) (log.end + 1 + first) p.taken v);
+              ∙ ap (λ n. set (placed (after cells a.writes) (log.end + 1 + first) p.taken) n (v + 1)) (let e : log.end + 1 + place ≡ log.end + 1 + first + length p.taken = omega (arith, p.at) in e)
+              ∙ sym (placed-push (after cells a.writes) (log.end + 1 + first) p.taken v);
           same = same_but_placed a d
-            (ap (λ (s : Attempt M D). s.table) same ∙ ap (λ (s : Attempt M D). s.table) took ∙ ap (λ (s : Attempt M D). s.table) p.same)
-            (state ∙ ap (λ (s : Attempt M D). s.state) took ∙ ap (λ (s : Attempt M D). s.state) p.same)
-            (ap (λ (s : Attempt M D). s.version) same ∙ ap (λ (s : Attempt M D). s.version) took ∙ ap (λ (s : Attempt M D). s.version) p.same)
-            (ap (λ (s : Attempt M D). s.notes) same ∙ ap (λ (s : Attempt M D). s.notes) took ∙ ap (λ (s : Attempt M D). s.notes) p.same);
+              (ap (λ (s : Attempt M D). s.table) same ∙ ap (λ (s : Attempt M D). s.table) took ∙ ap (λ (s : Attempt M D). s.table) p.same)
+              (state ∙ ap (λ (s : Attempt M D). s.state) took ∙ ap (λ (s : Attempt M D). s.state) p.same)
+              (ap (λ (s : Attempt M D). s.version) same ∙ ap (λ (s : Attempt M D). s.version) took ∙ ap (λ (s : Attempt M D). s.version) p.same)
+              (ap (λ (s : Attempt M D). s.notes) same ∙ ap (λ (s : Attempt M D). s.notes) took ∙ ap (λ (s : Attempt M D). s.notes) p.same);
           touches = touches_trans _ a b d (touches_weaker _ _ a b wider p.touches) (touches_weaker _ _ b d here (touches_from _ b m d took touches));
           others = record {
             others = λ q off. ap (λ (w : List Waiting). waiting_of w q) additions ∙ changes.others q off ∙ p.others.others q off;
             marked = λ q. ap (λ (w : List Waiting). marked_of w q) additions ∙ changes.marked q ∙ p.others.marked q;
           };
+          kept = λ c h. kept c (rw ps (p.kept c h));
+          writes_held = λ h. writes_held (λ c some. rw ps (p.writes_held h c (rw (ap (λ (w : Entries). word_at w c) ws) at some)));
           used = let u : UsesAtMost 1 1 b.spare d.spare = rw (← sp) used in record { locks = omega (arith, p.used.locks, u.locks, more); observations = omega (arith, p.used.observations, u.observations, more); writes = omega (arith, p.used.writes, u.writes, more) };
           pass = holds_only_trans a.pass b.pass d.pass p.pass (rw (← ps) pass);
           grew = grew_more (3 * length p.taken + 3) (3 * length (p.taken ++ v ∷ [])) _ _ (omega (arith, more)) (grew_trans (3 * length p.taken) 3 (trail_of a.pass) (trail_of b.pass) (trail_of d.pass) p.grew (rw (← ps) grew));
@@ -151,15 +158,15 @@ module _ {M D : Type 0} where
 
     -- all additions are placed, and the length is written
     pub placing_ends : (first : ℕ) (a b d : Attempt M D) (place : ℕ) → IsPlacing log first a b place → waiting log b ≡ []
-      → ((cells : List ℕ) (cell x : ℕ) → after cells (put b.writes cell x) ≡ slice_set (after cells b.writes) cell x)
-      → d.writes ≡ put b.writes log.end place → first + length (waiting log a) ≤ log.capacity
-      → (cells : List ℕ) → IsLog log (after cells a.writes) → length_in log (after cells a.writes) ≡ first
-      → IsLog log (after cells d.writes) × (values_in log (after cells d.writes) ≡ values_in log (after cells a.writes) ++ waiting log a)
+        → ((cells : List ℕ) (cell x : ℕ) → after cells (put b.writes cell x) ≡ slice_set (after cells b.writes) cell x)
+        → d.writes ≡ put b.writes log.end place → first + length (waiting log a) ≤ log.capacity
+        → (cells : List ℕ) → IsLog log (after cells a.writes) → length_in log (after cells a.writes) ≡ first
+        → IsLog log (after cells d.writes) × (values_in log (after cells d.writes) ≡ values_in log (after cells a.writes) ++ waiting log a)
     placing_ends first a b d place p none put_is ws fits cells is long =
         let all : waiting log a ≡ p.taken = p.waits ∙ ap (λ (w : List ℕ). p.taken ++ w) none ∙ append-nil p.taken in
         let cells_are : after cells d.writes ≡ appended log (after cells a.writes) (waiting log a) =
-          ap (λ (w : Entries). after cells w) ws ∙ put_is cells log.end place ∙ ap (λ (w : List ℕ). set w log.end place) (p.laid cells)
-          ∙ rw (long, all, ← p.at) refl in
+        ap (λ (w : Entries). after cells w) ws ∙ put_is cells log.end place ∙ ap (λ (w : List ℕ). set w log.end place) (p.laid cells)
+        ∙ rw (long, all, ← p.at) refl in
         rw cells_are (log_appended log (after cells a.writes) (waiting log a) is (omega (arith, fits, long)))
 
     pub placing_counts : (first : ℕ) (a b : Attempt M D) (place : ℕ) → IsPlacing log first a b place → waiting log b ≡ [] → place ≡ first + length (waiting log a)

@@ -27,7 +27,7 @@ module _ {M D : Type 0} (log : LogPart) (i : ℕ) where
   pub read_entry : (a b : Attempt M D) (w : ℕ) → KeepsLists a b → IsEntryWord b w → 0 < w → AllShown b → MakesOf log a b (λ xs ys. (Some (w - 1) ≡ slice_get xs i) × (ys ≡ xs))
   read_entry a b w keeps word full shown cells all is =
       let there : IsLog log (after cells b.writes) = rw keeps.0 is in
-      let lt : i < log.capacity = elim (below i log.capacity) [ | inl low ↦ low | inr high ↦ absurd (omega (arith, word.1 high)) ] in
+      let lt : i < log.capacity = elim (below i log.capacity) [ inl low ↦ low | inr high ↦ absurd (omega (arith, word.1 high)) ] in
       let at : word_in log (after cells b.writes) i ≡ w = word_shown log b i w cells lt (shown _ w (word.0 lt)) all there in
       let found = entry_there log (after cells b.writes) (waiting log b) i there lt (omega (arith, at)) in
       (there, (sym (rw (← keeps.0, ← keeps.1) (found ∙ ap (λ v. Some (v - 1)) at)), rw (keeps.0, keeps.1) refl))

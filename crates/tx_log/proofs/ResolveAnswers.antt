@@ -107,8 +107,8 @@ module _ {M D : Type 0} where
 
     -- the additions are placed
     pub makes_placed : (a b d : Attempt M D) (n : ℕ) {P : ℕ → Type 0} → b.writes ≡ a.writes → b.additions ≡ a.additions → ((c x : ℕ) → option_or (word_at b.writes c) (word_at b.observations c) ≡ Some x → Shows b c x) → ((cells : List ℕ) (more : Entries) → AllHold cells (b.observations ++ more) → AllHold cells b.observations) → TouchesOnly P b d → FoundLength log a b n → waiting log d ≡ []
-      → ((cells : List ℕ) → IsLog log (after cells b.writes) → length_in log (after cells b.writes) ≡ n → IsLog log (after cells d.writes) × (values_in log (after cells d.writes) ≡ values_in log (after cells b.writes) ++ waiting log b))
-      → MakesOf log a d (λ before after. (after ≡ before) × (length after ≤ log.capacity))
+        → ((cells : List ℕ) → IsLog log (after cells b.writes) → length_in log (after cells b.writes) ≡ n → IsLog log (after cells d.writes) × (values_in log (after cells d.writes) ≡ values_in log (after cells b.writes) ++ waiting log b))
+        → MakesOf log a d (λ before after. (after ≡ before) × (length after ≤ log.capacity))
     makes_placed a b d n ws adds shows earlier t found emptied placed cells all is =
         let f = found_length a b n cells ws shows found (earlier cells t.observed.0 (rw (← (t.observed.1)) all)) is in
         let p = placed cells f.0 f.1 in
@@ -147,7 +147,7 @@ module _ {M D : Type 0} where
 
     -- a stop at what was observed
     pub stop_at_observed : (a b d : Attempt M D) (i : ℕ) (stop : Stop) → IsLateHold a b log.end → i < length b.observations → IsFoundAt (cell_at b.observations i) stop → IsFoundIn (λ c. IsPlace log a d c ⊎ IsSome (word_at a.observations c)) stop
-    stop_at_observed a b d i stop late lt at = found_at_in _ (cell_at b.observations i) stop at (elim (observed_before a b i late lt) [ | inl some ↦ inr some | inr end ↦ inl (inl end) ])
+    stop_at_observed a b d i stop late lt at = found_at_in _ (cell_at b.observations i) stop at (elim (observed_before a b i late lt) [ inl some ↦ inr some | inr end ↦ inl (inl end) ])
 
     -- the end is held, so such a stop is at a cell that was observed before
     pub seen_at_observed : (a b : Attempt M D) (i : ℕ) (stop : Stop) → IsLateHold a b log.end → i < length b.observations → IsFoundAt (cell_at b.observations i) stop → has (cell_at b.observations i) (cells_of b.pass.view.held) ≡ false → has log.end (cells_of b.pass.view.held) ≡ true → IsUnseen a stop → ⊥

@@ -58,6 +58,14 @@ module _ {M D : Type 0} where
     pub draws : q.view.draws ≡ p.view.draws
     pub stage : q.view.stage ≡ p.view.stage
 
+  -- what was held is held
+  abbrev pub KeepsHeld : Attempt M D → Attempt M D → Type 0
+  KeepsHeld old new = (c : ℕ) → IsHeld old.pass c → IsHeld new.pass c
+
+  -- each cell that is written is held
+  abbrev pub HoldsWrites : Attempt M D → Type 0
+  HoldsWrites a = (c : ℕ) → IsSome (word_at a.writes c) → IsHeld a.pass c
+
   -- the length that was found under the lock of the end
   abbrev pub FoundLength : LogPart → Attempt M D → Attempt M D → ℕ → Type 0
   FoundLength log old new n = option_or (word_at old.writes log.end) (word_at new.observations log.end) ≡ Some n

@@ -85,6 +85,7 @@ impl LogPart {
         ensures cause { IfErr result (CausedSince (callers_of tx.old.pass.view.books) tx.old.version (length (trail_of tx.old.pass)) (trail_of tx.new.pass)) }
         ensures pass { HoldsOnly tx.old.pass tx.new.pass }
         ensures steps { GrewBy 3 (trail_of tx.old.pass) (trail_of tx.new.pass) }
+        ensures sole { IsSole tx.old.pass → IfErr result (λ stop. stop ≡ Memory) }
     {
         let shared = tx.hold(self.end)?;
         tx.laid_over();

@@ -12,7 +12,7 @@ ghost use Rattle.tx_core.specs.Causes.{CausedSince, FoundTwice, IsFoundAt, GrewB
 ghost use Rattle.tx_core.specs.Seen.{HoldsOnly};
 ghost use Rattle.tx_log.specs.Log.{IsLog, length_in, values_in};
 ghost use Rattle.tx_log.specs.Calls.{TouchesOnly, MakesOf, waiting};
-ghost use Rattle.tx_log.specs.Placing.{UsesAtMost, KeepsOthers, GoesOn, IsFrom, IsEndOrFrom, IsFoundIn, IsUnseen, FoundLength, IsPlace, IsExtended, IsRefused, IsFullEnd};
+ghost use Rattle.tx_log.specs.Placing.{UsesAtMost, KeepsOthers, KeepsHeld, HoldsWrites, GoesOn, IsFrom, IsEndOrFrom, IsFoundIn, IsUnseen, FoundLength, IsPlace, IsExtended, IsRefused, IsFullEnd};
 
 use crate::part::LogPart;
 use cell_table::Meaning;
@@ -40,6 +40,8 @@ impl LogPart {
         ensures refused { IfErr result (IsRefused self.now tx.old tx.new) }
         ensures same { tx.new ≡ record tx.old { pass = tx.new.pass; state = tx.new.state; observations = tx.new.observations; versions = tx.new.versions; writes = tx.new.writes; additions = tx.new.additions; spare = tx.new.spare; committing = tx.new.committing } }
         ensures touches { TouchesOnly (IsPlace self.now tx.old tx.new) tx.old tx.new }
+        ensures kept { KeepsHeld tx.old tx.new }
+        ensures writes_held { HoldsWrites tx.old → OnOk result (HoldsWrites tx.new) }
         ensures others { KeepsOthers self.now.part tx.old.additions tx.new.additions }
         ensures used { UsesAtMost (2 * length (waiting self.now tx.old)) (2 * length (waiting self.now tx.old)) tx.old.spare tx.new.spare }
         ensures pass { GoesOn tx.old.pass tx.new.pass }
@@ -83,6 +85,8 @@ impl LogPart {
         ensures same { tx.new ≡ record tx.old { pass = tx.new.pass; state = tx.new.state; observations = tx.new.observations; versions = tx.new.versions; writes = tx.new.writes; spare = tx.new.spare; committing = tx.new.committing } }
         ensures going { OnOk result (tx.new.state ≡ Running) }
         ensures touches { TouchesOnly (λ c. c ≡ self.now.end + 1 + place) tx.old tx.new }
+        ensures kept { KeepsHeld tx.old tx.new }
+        ensures writes_held { HoldsWrites tx.old → OnOk result (HoldsWrites tx.new) }
         ensures used { UsesAtMost 1 1 tx.old.spare tx.new.spare }
         ensures pass { HoldsOnly tx.old.pass tx.new.pass }
         ensures steps { GrewBy 3 (trail_of tx.old.pass) (trail_of tx.new.pass) }
@@ -121,6 +125,8 @@ impl LogPart {
         ensures same { tx.new ≡ record tx.old { pass = tx.new.pass; state = tx.new.state; observations = tx.new.observations; versions = tx.new.versions; writes = tx.new.writes; additions = tx.new.additions; spare = tx.new.spare; committing = tx.new.committing } }
         ensures going { OnOk result (tx.new.state ≡ Running) }
         ensures touches { TouchesOnly (IsEndOrFrom self.now shared (length (waiting self.now tx.old))) tx.old tx.new }
+        ensures kept { KeepsHeld tx.old tx.new }
+        ensures writes_held { HoldsWrites tx.old → OnOk result (HoldsWrites tx.new) }
         ensures others { KeepsOthers self.now.part tx.old.additions tx.new.additions }
         ensures used { UsesAtMost (length (waiting self.now tx.old)) (length (waiting self.now tx.old) + 1) tx.old.spare tx.new.spare }
         ensures pass { HoldsOnly tx.old.pass tx.new.pass }

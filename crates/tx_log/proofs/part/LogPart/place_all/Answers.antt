@@ -2,7 +2,7 @@ use Rattle.std.proofs.Common.{◌≡◌, ℕ, ◌+◌, ◌<◌, ◌≤◌, [], �
 use Rattle.attempt_lists.specs.Cells.{word_at}
 use Rattle.cell_table.specs.Pass.{trail_of}
 use Rattle.tx_core.proofs.Found.{length_grown}
-use Rattle.tx_log.proofs.OneHold.{put_same}
+use Rattle.tx_log.proofs.OneHold.{put_same, holds_put}
 use Rattle.tx_core.specs.Tx.{Attempt}
 use Rattle.tx_log.specs.Calls.{waiting}
 use Rattle.tx_log.proofs.Touching.{touches_trans, touches_weaker}
@@ -17,7 +17,7 @@ loop-value-preserved g c =
     let r = c.in-Ok.ensures in
     let took = c.in-Some.ensures in
     placing_step c.args.self.now c.args.shared c.args.tx.now c.loop-value.tx c.take_later.new.self c.place_one.new.tx c.loop-value.place c.in-Some.value c.loop-value.invariant
-    took.same took.first.0 took.first.1 r.laid r.same (r.going ∙ sym (ap (λ (t : Attempt _ _). t.state) took.same ∙ ap (λ (t : Attempt _ _). t.state) c.loop-value.invariant.same ∙ c.requires.running)) r.touches r.used r.pass r.steps
+    took.same took.first.0 took.first.1 r.laid r.same (r.going ∙ sym (ap (λ (t : Attempt _ _). t.state) took.same ∙ ap (λ (t : Attempt _ _). t.state) c.loop-value.invariant.same ∙ c.requires.running)) r.touches r.kept r.writes_held r.used r.pass r.steps
 
 pub returns-in-Err-clause-touches : goal.returns-in-Err-clause-touches
 returns-in-Err-clause-touches g c =
@@ -57,3 +57,10 @@ returns-clause-touches g c =
     let p : IsPlacing c.args.self.now c.args.shared c.args.tx.now c.take_later.new.self c.loop-value.place = rw (e.1) c.loop-value.invariant in
     touches_trans _ _ _ _ (placing_touches c.args.self.now c.args.shared c.args.tx.now c.take_later.new.self c.loop-value.place p)
     (touches_put _ c.take_later.new.self c.write_reserved.new.self c.args.self.now.end c.loop-value.place (inl refl) (ap (λ (t : Attempt _ _). t.observations) w) (ap (λ (t : Attempt _ _). t.writes) w) (ap (λ (t : Attempt _ _). t.pass) w))
+
+pub returns-clause-writes_held : goal.returns-clause-writes_held
+returns-clause-writes_held g c = λ all.
+    let e = c.in_default.ensures.first in
+    let w = c.write_reserved.ensures.written in
+    let p : IsPlacing c.args.self.now c.args.shared c.args.tx.now c.take_later.new.self c.loop-value.place = rw (e.1) c.loop-value.invariant in
+    holds_put c.take_later.new.self c.write_reserved.new.self c.args.self.now.end c.loop-value.place (p.writes_held all) (p.kept c.args.self.now.end c.requires.held) (ap (λ (t : Attempt _ _). t.writes) w) (ap (λ (t : Attempt _ _). t.pass) w)
