@@ -1,16 +1,14 @@
 -- What an attempt of a pass with every caller number reads, and what its record makes of the cells.
-use Rattle.std.proofs.Common.{◌≡◌, ℕ, ◌+◌, ◌<◌, ◌≤◌, ltb, Bool, true, false, cond, List, [], ◌∷◌, ◌++◌, length, slice_index, slice_set, refl, sym, ap, ◌∙◌, arith}
+use Rattle.std.proofs.Common.{◌≡◌, ℕ, ◌<◌, ◌≤◌, ltb, Bool, true, false, cond, List, [], ◌∷◌, ◌++◌, length, slice_index, slice_set, refl, sym, ap, ◌∙◌, arith}
 use Rattle.std.proofs.lemmas.Bool.{ltb-true}
 use Rattle.cell_table.specs.Sorted.{Each, insert_by, merge_by}
 use Rattle.cell_table.specs.Cells.{after}
 use Rattle.cell_table.specs.declared.view.Record.{Record}
 use Rattle.cell_table.specs.declared.view.Noted.{Noted}
-use Rattle.cell_table.specs.declared.view.Book.{Book}
 use Rattle.cell_table.specs.declared.view.NotedBook.{NotedBook}
-use Rattle.cell_table.specs.declared.view.View.{View}
 use Rattle.cell_table.specs.IsPass.{writers_after, writer_books}
 use Rattle.cell_table.specs.Pass.{PassState, note}
-use Rattle.cell_table.specs.Writers.{Alone, in_order, place_key, replay, writers_in}
+use Rattle.cell_table.specs.Writers.{Alone, place_key, replay, writers_in}
 use Rattle.tx_core.specs.Seen.{LooksOnly, StandsAt}
 use Rattle.tx_core.specs.Stored.{cells_left}
 use Rattle.tx_core.proofs.Looks.{observes_of}

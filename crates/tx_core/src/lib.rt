@@ -17,8 +17,8 @@ mod peek;
 mod resolve_end;
 mod spare;
 mod steps;
-mod stores;
 mod stop;
+mod stores;
 mod tx;
 mod untold;
 

@@ -1,7 +1,7 @@
-use Rattle.std.proofs.Common.{◌≡◌, ◌+◌, ◌<◌, ◌∷◌, [], length, slice_index, None, refl, ap, sym, ◌∙◌, arith}
+use Rattle.std.proofs.Common.{◌≡◌, ◌+◌, [], slice_index, None, refl, ap, ◌∙◌, arith}
 use Rattle.cell_table.specs.Pass.{PassState, IsSole}
 use Rattle.attempt_lists.specs.Cells.{Entries, word_at, put}
-use Rattle.tx_core.specs.Tx.{Attempt, Observed}
+use Rattle.tx_core.specs.Tx.{Attempt}
 use Rattle.tx_core.specs.Stored.{cells_left}
 use Rattle.tx_core.proofs.Increments.{read_alone}
 use Rattle.tx_core.proofs.increment.add_one.Goals as goal

@@ -1,4 +1,4 @@
-use Rattle.std.proofs.Common.{◌≡◌, ℕ, ◌+◌, ◌<◌, ◌≤◌, ◌∷◌, [], true, length, slice_index, ap, sym, ◌∙◌, arith}
+use Rattle.std.proofs.Common.{◌≡◌, ◌+◌, ◌∷◌, [], true, slice_index, ap, ◌∙◌, arith}
 use Rattle.cell_table.specs.Pass.{PassState, note}
 use Rattle.tx_core.specs.Stored.{cells_left}
 use Rattle.tx_core.proofs.Increments.{one_write}

@@ -22,8 +22,7 @@ check-requires-clause-observed g c =
 pub invariant_of-self : goal.invariant_of-self
 invariant_of-self g c =
     let some : c.self.inside.pass.view.held ≢ [] = λ none. c.requires.holds (ap (λ (a : Attempt _ _). a.pass.view.held) (sym c.self.view_is) ∙ none) in
-    let drew = attempt_draws _ _ c.self.inside.pass c.draw-drawn.new.pass _ _ _ c.draw-drawn.result (attempt_commits _ _ _ _ _ _ _ c.self.invariant.0) c.draw-drawn.ensures.view c.draw-drawn.ensures.of c.draw-drawn.ensures.later.1 some in
-    (
+    let drew = attempt_draws _ _ c.self.inside.pass c.draw-drawn.new.pass _ _ _ c.draw-drawn.result (attempt_commits _ _ _ _ _ _ _ c.self.invariant.0) c.draw-drawn.ensures.view c.draw-drawn.ensures.of c.draw-drawn.ensures.later.1 some in (
       attempt_looks _ _ c.draw-drawn.new.pass c.check.new.pass _ _ _ _ c.in-Ok.ensures.looks c.in-Ok.ensures.of drew,
       provided_places c.self.inside.pass c.check.new.pass _ _ _ _ _ _ (ap (λ (s : PassState _ _). s.places) c.in-Ok.ensures.looks.0 ∙ ap (λ (s : PassState _ _). s.places) c.draw-drawn.ensures.view) (provided_commits _ _ _ _ _ _ _ c.self.invariant.1),
     )
@@ -31,8 +30,7 @@ invariant_of-self g c =
 pub invariant_of-self-in-Err : goal.invariant_of-self-in-Err
 invariant_of-self-in-Err g c =
     let some : c.self.inside.pass.view.held ≢ [] = λ none. c.requires.holds (ap (λ (a : Attempt _ _). a.pass.view.held) (sym c.self.view_is) ∙ none) in
-    let drew = attempt_draws _ _ c.self.inside.pass c.draw-drawn.new.pass _ _ _ c.draw-drawn.result (attempt_commits _ _ _ _ _ _ _ c.self.invariant.0) c.draw-drawn.ensures.view c.draw-drawn.ensures.of c.draw-drawn.ensures.later.1 some in
-    (
+    let drew = attempt_draws _ _ c.self.inside.pass c.draw-drawn.new.pass _ _ _ c.draw-drawn.result (attempt_commits _ _ _ _ _ _ _ c.self.invariant.0) c.draw-drawn.ensures.view c.draw-drawn.ensures.of c.draw-drawn.ensures.later.1 some in (
       attempt_looks _ _ c.draw-drawn.new.pass c.check.new.pass _ _ _ _ c.in-Err.ensures.looks c.in-Err.ensures.of drew,
       provided_places c.self.inside.pass c.check.new.pass _ _ _ _ _ _ (ap (λ (s : PassState _ _). s.places) c.in-Err.ensures.looks.0 ∙ ap (λ (s : PassState _ _). s.places) c.draw-drawn.ensures.view) (provided_commits _ _ _ _ _ _ _ c.self.invariant.1),
     )
