@@ -1,5 +1,5 @@
 -- What a read of one cell leaves of an attempt, and what it says of a log.
-use Rattle.std.proofs.Common.{◌≡◌, ℕ, ◌+◌, ◌<◌, ◌≤◌, List, [], ◌∷◌, ◌++◌, ◌⊎◌, inl, inr, length, Some, None, refl, sym, ap, ◌∙◌, arith}
+use Rattle.std.proofs.Common.{◌≡◌, ℕ, ◌+◌, ◌<◌, List, ◌⊎◌, inl, inr, Some, None, refl, ap, arith}
 use Rattle.std.specs.Prelude.{Option}
 use Rattle.cell_table.specs.Cells.{AllHold, after}
 use Rattle.attempt_lists.specs.Cells.{word_at}

@@ -1,10 +1,8 @@
 -- Entries that are placed behind those of a log.
-use Rattle.std.proofs.Common.{◌≡◌, ◌≢◌, ℕ, zero, suc, ◌+◌, ◌-◌, ◌<◌, ◌≤◌, List, [], ◌∷◌, ◌++◌, ◌⊎◌, inl, inr, length, map, take, drop, get_or, set, refl, sym, ap, ◌∙◌, arith}
-use Rattle.std.specs.Prelude.{slice_index, slice_set}
-use Rattle.std.proofs.lemmas.List.{length-set, length-append, length-drop, get_or-set_same, get_or-set_other, append_assoc, append-nil, take_more_set, map_push, drop-set-add, drop-set-lt}
+use Rattle.std.proofs.Common.{◌≡◌, ℕ, suc, ◌+◌, ◌-◌, ◌<◌, ◌≤◌, List, [], ◌∷◌, ◌++◌, ◌⊎◌, inl, inr, length, map, take, drop, get_or, set, refl, sym, ap, ◌∙◌, arith}
+use Rattle.std.proofs.lemmas.List.{length-set, length-drop, get_or-set_same, get_or-set_other, append_assoc, append-nil, take_more_set, map_push, drop-set-add, drop-set-lt}
 use Rattle.tx_log.specs.Log.{IsLog, length_in, word_in, values_in}
 use Rattle.tx_log.specs.declared.part.LogPart.{LogPart}
-use Rattle.tx_log.proofs.Logs.{length-values}
 
 -- the cells with the words of the values from a cell on
 abbrev pub placed : List ℕ → ℕ → List ℕ → List ℕ

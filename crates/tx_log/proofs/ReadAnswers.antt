@@ -1,12 +1,12 @@
 -- The answers of a read of a log.
-use Rattle.std.proofs.Common.{◌≡◌, ℕ, ◌+◌, ◌-◌, ◌<◌, ◌≤◌, List, ◌++◌, ◌⊎◌, inl, inr, Some, refl, sym, ap, ◌∙◌, arith}
+use Rattle.std.proofs.Common.{◌≡◌, ℕ, ◌+◌, ◌-◌, ◌<◌, ◌≤◌, ◌⊎◌, inl, inr, Some, refl, sym, ap, ◌∙◌, arith}
 use Rattle.std.specs.Prelude.{Option}
 use Rattle.std.specs.List.{slice_get}
-use Rattle.cell_table.specs.Cells.{AllHold, after}
+use Rattle.cell_table.specs.Cells.{after}
 use Rattle.tx_core.specs.Tx.{Attempt, Observed}
 use Rattle.tx_core.specs.Parts.{Shows}
 use Rattle.tx_log.specs.declared.part.LogPart.{LogPart}
-use Rattle.tx_log.specs.Log.{IsLog, length_in, word_in, values_in}
+use Rattle.tx_log.specs.Log.{IsLog, length_in, word_in}
 use Rattle.tx_log.specs.Calls.{known, waiting, MakesOf}
 use Rattle.tx_log.proofs.Replies.{entry_there, entry_waits}
 use Rattle.tx_log.proofs.OneRead.{Reading, length_shown, word_shown}

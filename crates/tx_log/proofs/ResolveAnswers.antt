@@ -1,26 +1,25 @@
 -- The end of a log is held, and then what waits is placed or refused.
-use Rattle.std.proofs.Common.{◌≡◌, ◌≢◌, ℕ, zero, suc, ◌+◌, ◌-◌, ◌*◌, ◌<◌, ◌≤◌, eqb, Bool, true, false, List, [], ◌∷◌, ◌++◌, ◌⊎◌, inl, inr, length, slice_index, if◌then◌else◌, Some, None, refl, sym, ap, subst, ◌∙◌, arith, append-nil, append_assoc}
+use Rattle.std.proofs.Common.{◌≡◌, ℕ, zero, suc, ◌+◌, ◌<◌, ◌≤◌, eqb, Bool, true, false, List, [], ◌∷◌, ◌++◌, ◌⊎◌, inl, inr, length, if◌then◌else◌, Some, None, refl, sym, ap, subst, ◌∙◌, arith, append-nil}
 use Rattle.std.specs.Prelude.{Option, IsSome}
 use Rattle.std.specs.Option.{option_or}
 use Rattle.std.proofs.lemmas.Bool.Decides.{nat_tests}
-use Rattle.std.proofs.lemmas.List.{length-append, length_push}
+use Rattle.std.proofs.lemmas.List.{length-append}
 use Rattle.cell_table.specs.Cells.{AllHold, after, has}
-use Rattle.cell_table.specs.Sorted.{Each}
 use Rattle.cell_table.specs.Rule.{cells_of}
-use Rattle.cell_table.specs.Pass.{PassState, trail_of, with_view}
+use Rattle.cell_table.specs.Pass.{PassState}
 use Rattle.cell_table.specs.declared.view.Event.{Event}
-use Rattle.attempt_lists.specs.Cells.{Entries, word_at, word_of, cell_at}
+use Rattle.attempt_lists.specs.Cells.{Entries, word_at, cell_at}
 use Rattle.tx_core.specs.Tx.{Attempt}
 use Rattle.tx_core.specs.Parts.{Shows}
 use Rattle.tx_core.specs.Seen.{HoldsOnly, KnowsMore}
-use Rattle.tx_core.specs.Causes.{GrewBy, IsFoundAt, FoundTwice, FoundSince}
+use Rattle.tx_core.specs.Causes.{IsFoundAt, FoundTwice}
 use Rattle.tx_core.specs.declared.stop.Stop.{Stop}
 use Rattle.tx_core.specs.declared.stop.Stop.TheVariants.{Held, Newer, Memory}
 use Rattle.tx_core.proofs.Looks.{grows_trans}
 use Rattle.tx_log.specs.declared.part.LogPart.{LogPart}
 use Rattle.tx_log.specs.Log.{IsLog, length_in, values_in}
 use Rattle.tx_log.specs.Calls.{TouchesOnly, MakesOf, waiting}
-use Rattle.tx_log.specs.Placing.{UsesAtMost, IsFrom, IsEndOrFrom, IsFoundIn, IsUnseen, GoesOn, FoundLength, IsPlace}
+use Rattle.tx_log.specs.Placing.{IsFrom, IsEndOrFrom, IsFoundIn, IsUnseen, GoesOn, FoundLength, IsPlace}
 use Rattle.tx_log.proofs.Logs.{length-values}
 use Rattle.tx_log.proofs.OneRead.{length_shown}
 use Rattle.tx_log.proofs.OneHold.{IsLateHold}

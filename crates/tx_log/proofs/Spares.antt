@@ -1,5 +1,5 @@
 -- The places that a lock of the end and the placing of the entries use.
-use Rattle.std.proofs.Common.{ℕ, ◌+◌, ◌*◌, ◌<◌, ◌≤◌, arith}
+use Rattle.std.proofs.Common.{ℕ, ◌+◌, ◌*◌, ◌<◌, arith}
 use Rattle.tx_core.specs.declared.spare.Spare.{Spare}
 use Rattle.tx_log.specs.Placing.{UsesAtMost}
 

@@ -1,5 +1,5 @@
 -- What the calls of a log say of an attempt.
-use Rattle.std.specs.Prelude.{◌≡◌, ℕ, ◌+◌, ◌<◌, ◌≤◌, List, ◌++◌, ◌⊎◌, length, Option, Some}
+use Rattle.std.specs.Prelude.{◌≡◌, ℕ, List, ◌++◌, Option}
 use Rattle.std.specs.Option.{option_or}
 use Rattle.cell_table.specs.Cells.{has}
 use Rattle.cell_table.specs.Sorted.{Each}

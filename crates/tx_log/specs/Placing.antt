@@ -1,5 +1,5 @@
 -- What the placing of a log's additions at the commit says of an attempt.
-use Rattle.std.specs.Prelude.{◌≡◌, ◌≢◌, ℕ, ◌+◌, ◌*◌, ◌<◌, ◌≤◌, true, List, ◌++◌, ◌∷◌, ◌⊎◌, length, Some, None, IsSome}
+use Rattle.std.specs.Prelude.{◌≡◌, ◌≢◌, ℕ, ◌+◌, ◌<◌, ◌≤◌, true, List, ◌++◌, ◌∷◌, ◌⊎◌, length, Some, None, IsSome}
 use Rattle.std.specs.Option.{option_or}
 use Rattle.cell_table.specs.declared.view.Event.{Event}
 use Rattle.cell_table.specs.declared.view.Event.TheVariants.{ClockLoaded}
@@ -13,7 +13,7 @@ use Rattle.tx_core.specs.Causes.{CausedSince, FoundTwice}
 use Rattle.tx_core.specs.declared.spare.Spare.{Spare}
 use Rattle.tx_core.specs.declared.stop.Stop.{Stop}
 use Rattle.tx_core.specs.declared.stop.Stop.TheVariants.{Held, Newer, Memory}
-use Rattle.tx_core.specs.declared.stop.TxState.TheVariants.{Running, Stopped}
+use Rattle.tx_core.specs.declared.stop.TxState.TheVariants.{Stopped}
 use Rattle.tx_core.specs.declared.resolve_end.ResolveEnd.{ResolveEnd}
 use Rattle.tx_core.specs.declared.resolve_end.ResolveEnd.TheVariants as ends
 use Rattle.tx_log.specs.declared.part.LogPart.{LogPart}

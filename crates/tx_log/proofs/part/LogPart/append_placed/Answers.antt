@@ -1,8 +1,8 @@
-use Rattle.std.proofs.Common.{◌≡◌, ◌++◌, ◌∷◌, [], length, refl, sym, ap, ◌∙◌, arith}
+use Rattle.std.proofs.Common.{◌≡◌, ◌∷◌, [], sym, ap, arith}
 use Rattle.std.proofs.lemmas.List.{length-append, append_assoc}
 use Rattle.cell_table.specs.Cells.{after}
 use Rattle.tx_core.specs.Tx.{Attempt}
-use Rattle.tx_log.specs.Log.{IsLog, length_in, values_in}
+use Rattle.tx_log.specs.Log.{IsLog, values_in}
 use Rattle.tx_log.specs.Calls.{waiting}
 use Rattle.tx_log.proofs.Logs.{length-values}
 use Rattle.tx_log.proofs.OneRead.{holding_keeps, length_shown}

@@ -1,4 +1,4 @@
-use Rattle.std.proofs.Common.{◌≡◌, ℕ, ◌+◌, ◌<◌, ◌≤◌, [], ◌∷◌, inl, inr, Some, length, refl, sym, ap, ◌∙◌, arith}
+use Rattle.std.proofs.Common.{◌≡◌, ◌≤◌, [], inl, inr, Some, length, refl, sym, ap, ◌∙◌}
 use Rattle.attempt_lists.specs.Cells.{word_at}
 use Rattle.cell_table.specs.Pass.{trail_of}
 use Rattle.tx_core.proofs.Found.{length_grown}

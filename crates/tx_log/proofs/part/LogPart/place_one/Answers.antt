@@ -1,4 +1,4 @@
-use Rattle.std.proofs.Common.{◌≡◌, ◌+◌, refl, ap}
+use Rattle.std.proofs.Common.{◌+◌, refl, ap}
 use Rattle.tx_core.specs.Tx.{Attempt}
 use Rattle.tx_log.proofs.OneHold.{late_hold_is, touches_late, holds_late, holds_put}
 use Rattle.tx_log.proofs.part.LogPart.place_one.Goals as goal

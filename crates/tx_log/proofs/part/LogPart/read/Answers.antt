@@ -1,5 +1,4 @@
-use Rattle.std.proofs.Common.{◌≡◌, ℕ, ◌+◌, ◌<◌, ◌≤◌, ◌⊎◌, inl, inr, refl, sym, ap, ◌∙◌, arith, Some}
-use Rattle.std.specs.Prelude.{Option}
+use Rattle.std.proofs.Common.{◌≡◌, inl, inr, refl, sym, ap, ◌∙◌, arith, Some}
 use Rattle.cell_table.specs.Rule.{callers_of}
 use Rattle.tx_core.proofs.Looks.{looks_trans}
 use Rattle.tx_core.proofs.Found.{grew_trans}

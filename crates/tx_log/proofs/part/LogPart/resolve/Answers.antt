@@ -1,15 +1,12 @@
-use Rattle.std.proofs.Common.{◌≡◌, ℕ, ◌+◌, ◌*◌, ◌<◌, ◌≤◌, [], ◌∷◌, ◌++◌, List, length, true, refl, sym, ap, ◌∙◌, arith, append_assoc}
-use Rattle.cell_table.specs.Cells.{has}
-use Rattle.cell_table.specs.Rule.{cells_of, callers_of}
-use Rattle.cell_table.specs.Pass.{PassState, trail_of}
+use Rattle.std.proofs.Common.{◌≡◌, ◌+◌, ◌*◌, ◌∷◌, ◌++◌, List, length, refl, sym, ap, ◌∙◌, arith}
+use Rattle.cell_table.specs.Rule.{callers_of}
 use Rattle.cell_table.specs.declared.view.Event.{Event}
 use Rattle.cell_table.specs.declared.view.Event.TheVariants.{ClockLoaded}
 use Rattle.tx_core.specs.Tx.{Attempt}
 use Rattle.tx_core.proofs.Found.{length_grown, grew_more, grew_trans}
-use Rattle.tx_log.specs.Calls.{waiting, TouchesOnly}
-use Rattle.tx_log.specs.Placing.{FoundLength, UsesAtMost}
+use Rattle.tx_log.specs.Calls.{waiting}
 use Rattle.tx_log.proofs.Spares.{used_both}
-use Rattle.tx_log.proofs.OneHold.{IsLateHold, late_hold_is, touches_hold, holds_late, locked_and_checked}
+use Rattle.tx_log.proofs.OneHold.{late_hold_is, touches_hold, holds_late, locked_and_checked}
 use Rattle.tx_log.proofs.Touching.{caused_in_both}
 use Rattle.tx_log.proofs.ResolveAnswers.{goes_holds, goes_trans, goes_knows, late_writes, found_stays, makes_nothing, makes_placed, touches_places, stop_at_entry, twice_at_entry, stop_at_observed, seen_at_observed}
 use Rattle.tx_log.proofs.part.LogPart.resolve.Goals as goal
