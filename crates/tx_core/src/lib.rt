@@ -15,6 +15,7 @@ mod increment;
 mod late;
 mod locks;
 mod peek;
+mod resolve_end;
 mod spare;
 mod steps;
 mod stop;
@@ -22,6 +23,7 @@ mod stores;
 mod tx;
 mod untold;
 
+pub use resolve_end::ResolveEnd;
 pub use spare::Spare;
 pub use stop::{Stop, TxState};
 pub use tx::Tx;

@@ -1,0 +1,10 @@
+pub mod Logs
+pub mod Placing
+pub mod Replies
+pub mod OneRead
+pub mod Spares
+pub mod Touching
+pub mod ReadAnswers
+pub mod OneHold
+pub mod Placings
+pub mod ResolveAnswers
