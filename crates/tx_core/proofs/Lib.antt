@@ -6,7 +6,8 @@ pub mod AttemptFacts
 pub mod Giving
 pub mod Locking
 pub mod Checking
-pub mod Parts
 pub mod LateLocks
 pub mod Storing
+pub mod Increments
 pub mod Providing
+pub mod Parts

@@ -2,11 +2,15 @@
 //! commit stands at one place.
 #![tactic(auto)]
 
+#[cfg(test)]
+mod addition_tests;
 mod additions;
 mod check;
 mod commit;
 mod gives;
 mod hold;
+#[cfg(test)]
+mod increment;
 mod late;
 mod locks;
 mod peek;

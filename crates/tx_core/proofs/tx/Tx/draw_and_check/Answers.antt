@@ -7,7 +7,7 @@ use Rattle.cell_table.specs.Steps.{Grows}
 use Rattle.cell_table.specs.Pass.{PassState}
 use Rattle.attempt_lists.specs.Cells.{cell_at, word_of}
 use Rattle.tx_core.specs.Tx.{Attempt}
-use Rattle.tx_core.proofs.Looks.{observes_grows, drawn_grows, stands_unheld}
+use Rattle.tx_core.proofs.Looks.{grows_trans, observes_grows, drawn_grows, stands_unheld}
 use Rattle.tx_core.proofs.Providing.{provided_places, provided_commits}
 use Rattle.tx_core.proofs.AttemptFacts.{attempt_looks, attempt_commits, attempt_draws}
 use Rattle.tx_core.proofs.tx.Tx.draw_and_check.Goals as goal
@@ -58,3 +58,16 @@ returns-in-Ok-clause-check g c = rw (← c.self.view_is) (λ i lt.
         omega (arith, known),
       )
     ])
+
+-- the draw and the looks only tell more
+pub returns-in-Ok-clause-grows : goal.returns-in-Ok-clause-grows
+returns-in-Ok-clause-grows g c =
+    let view = ap (λ (s : PassState _ _). s.view) c.draw-drawn.ensures.view in
+    let grown : Grows c.self.inside.pass.view c.draw-drawn.new.pass.view = rw view (drawn_grows c.self.inside.pass.view c.draw-drawn.result c.draw-drawn.ensures.later.1) in
+    rw (ap (λ (a : Attempt _ _). a.pass) (sym c.self.view_is)) (grows_trans _ _ _ grown c.in-Ok.ensures.looks.1.grows)
+
+pub returns-in-Err-clause-grows : goal.returns-in-Err-clause-grows
+returns-in-Err-clause-grows g c =
+    let view = ap (λ (s : PassState _ _). s.view) c.draw-drawn.ensures.view in
+    let grown : Grows c.self.inside.pass.view c.draw-drawn.new.pass.view = rw view (drawn_grows c.self.inside.pass.view c.draw-drawn.result c.draw-drawn.ensures.later.1) in
+    rw (ap (λ (a : Attempt _ _). a.pass) (sym c.self.view_is)) (grows_trans _ _ _ grown c.in-Err.ensures.looks.1.grows)
