@@ -1,16 +1,14 @@
 //! The calls of a map.
-ghost use Rattle.std.specs.Prelude.{◌≡◌, ℕ, ◌+◌, ◌-◌, ◌^◌, ◌<◌, ◌≤◌, ◌⊎◌, [], ◌∷◌, ◌++◌, false, length, Option, Some, None, IfOk, OnOk, IsSome, IsNone};
+ghost use Rattle.std.specs.Prelude.{◌≡◌, ℕ, ◌+◌, ◌-◌, ◌^◌, ◌<◌, false, length, Option, Some, None, IfOk, OnOk, IsSome, IsNone};
 ghost use Rattle.std.specs.Option.{option_or};
 ghost use Rattle.serial_terms.specs.Counts.{with_at};
-ghost use Rattle.attempt_lists.specs.Cells.{put, word_at};
+ghost use Rattle.attempt_lists.specs.Cells.{put};
 ghost use Rattle.cell_table.specs.Rule.{callers_of};
 ghost use Rattle.cell_table.specs.Pass.{IsSole, trail_of};
-ghost use Rattle.key_directory.specs.Directory.{Claimed, claim_of};
 ghost use Rattle.tx_core.specs.declared.stop.Stop.TheVariants.{Memory};
 ghost use Rattle.tx_core.specs.declared.stop.TxState.TheVariants.{Running, Stopped};
 ghost use Rattle.tx_core.specs.Causes.{CausedSince, IsOfCell, GrewBy};
 ghost use Rattle.tx_core.specs.Seen.{LooksOnly};
-ghost use Rattle.tx_core.specs.Tx.{Observed};
 ghost use Rattle.tx_core.specs.Parts.{Explains};
 ghost use Rattle.tx_map.specs.Map.{IsFormed, map_of, value_in};
 ghost use Rattle.tx_map.specs.Calls.{IsRegionOf, MayCall, AtKey, ClaimsKey, IfStopped, IfFull, MayObserve, PutsAfterLook, StopsAfterLook};

@@ -1,5 +1,5 @@
 //! What is true of every map in cells. Each function does nothing; what it ensures is the law.
-ghost use Rattle.std.specs.Prelude.{◌≡◌, ℕ, ◌+◌, ◌<◌, ◌≤◌, List, length, slice_index, None};
+ghost use Rattle.std.specs.Prelude.{◌≡◌, ℕ, ◌+◌, ◌<◌, List, slice_index, None};
 ghost use Rattle.attempt_lists.specs.Cells.{Entries};
 ghost use Rattle.cell_table.specs.Sorted.{Each};
 ghost use Rattle.cell_table.specs.Cells.{after};
