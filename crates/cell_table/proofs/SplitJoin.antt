@@ -46,6 +46,33 @@ module _ {D : Type 0} where
   last_some (suc n) [] b = absurd (omega arith)
   last_some (suc n) (x ∷ xs) b = last_some n xs (omega arith)
 
+module _ {M D : Type 0} where
+  pub grows_kept : (n d : ℕ) (v : View M D) → Grows v (kept_part n d v)
+  grows_kept n d v = record { meaning = refl; opening = refl; total = refl; known = omega arith; values = λ t a. a; validations = λ t a. a }
+
+  pub grows_new : (n d : ℕ) (v : View M D) → Grows v (new_part n d v)
+  grows_new n d v = record { meaning = refl; opening = refl; total = refl; known = omega arith; values = λ t a. a; validations = λ t a. a }
+
+  pub grows_left : (v w : View M D) (r : ℕ) → max v.known w.known ≤ r → Grows v (clocked (both_parts v w) r)
+  grows_left v w r l = let b : View M D = both_parts v w in let g : Grows b (clocked b r) = grows_clocked b r l in record {
+    meaning = refl;
+    opening = refl;
+    total = refl;
+    known = omega arith;
+    values = λ t a. among_left t v.values w.values a;
+    validations = λ t a. g.validations t (among_left t v.validations w.validations a);
+  }
+
+  pub grows_right : (v w : View M D) (r : ℕ) → max v.known w.known ≤ r → v.meaning ≡ w.meaning → v.opening ≡ w.opening → v.total ≡ w.total → Grows w (clocked (both_parts v w) r)
+  grows_right v w r l m o t = let b : View M D = both_parts v w in let g : Grows b (clocked b r) = grows_clocked b r l in record {
+    meaning = m;
+    opening = o;
+    total = t;
+    known = omega arith;
+    values = λ t a. among_right t v.values w.values a;
+    validations = λ t a. g.validations t (among_right t v.validations w.validations a);
+  }
+
 module _ {M D : Type 0} (lawful : M → List ℕ → Type 0) (explains : M → List (ℕ × ℕ) → List (ℕ × ℕ) → List D → Type 0) where
   legal_kept : (n d : ℕ) (v : View M D) → LegalNow lawful explains v → LegalNow lawful explains (kept_part n d v)
   legal_kept n d v k = record {
@@ -85,12 +112,6 @@ module _ {M D : Type 0} (lawful : M → List ℕ → Type 0) (explains : M → L
     trail = (tt, k.trail);
   }
 
-  grows_kept : (n d : ℕ) (v : View M D) → Grows v (kept_part n d v)
-  grows_kept n d v = record { meaning = refl; opening = refl; total = refl; known = omega arith; values = λ t a. a; validations = λ t a. a }
-
-  grows_new : (n d : ℕ) (v : View M D) → Grows v (new_part n d v)
-  grows_new n d v = record { meaning = refl; opening = refl; total = refl; known = omega arith; values = λ t a. a; validations = λ t a. a }
-
   kept_at : (p : PassState M D) (t : TableId) (n d reserved : ℕ) → IsPass lawful explains p → p.view.stage ≡ Open → 0 < n → n < length p.view.books → IsPass lawful explains (record p { view = kept_part n d p.view; table = t; books = take n p.books; reserved = reserved })
   kept_at p t n d reserved f st low high = let g : Grows p.view (kept_part n d p.view) = grows_kept n d p.view in record {
     acting = first_some n p.view.books low high;
@@ -129,26 +150,6 @@ module _ {M D : Type 0} (lawful : M → List ℕ → Type 0) (explains : M → L
   abbrev whole : PassState M D → PassState M D → ℕ → View M D
   whole p q r = clocked (both_parts p.view q.view) r
 
-  grows_left : (p q : PassState M D) (r : ℕ) → max p.view.known q.view.known ≤ r → p.view.stage ≡ Open → p.view.held ≡ [] → Grows p.view (whole p q r)
-  grows_left p q r l st none_held = let b : View M D = both_parts p.view q.view in let g : Grows b (whole p q r) = grows_clocked b r l in record {
-    meaning = refl;
-    opening = refl;
-    total = refl;
-    known = omega arith;
-    values = λ t a. among_left t p.view.values q.view.values a;
-    validations = λ t a. g.validations t (among_left t p.view.validations q.view.validations a);
-  }
-
-  grows_right : (p q : PassState M D) (r : ℕ) → max p.view.known q.view.known ≤ r → p.view.meaning ≡ q.view.meaning → p.view.opening ≡ q.view.opening → p.view.total ≡ q.view.total → Grows q.view (whole p q r)
-  grows_right p q r l m o t = let b : View M D = both_parts p.view q.view in let g : Grows b (whole p q r) = grows_clocked b r l in record {
-    meaning = m;
-    opening = o;
-    total = t;
-    known = omega arith;
-    values = λ t a. among_right t p.view.values q.view.values a;
-    validations = λ t a. g.validations t (among_right t p.view.validations q.view.validations a);
-  }
-
   whole_at : (p q : PassState M D) (t : TableId) (r reserved : ℕ) → IsPass lawful explains p → IsPass lawful explains q → IsIdle p.view → max p.view.known q.view.known ≤ r → p.view.meaning ≡ q.view.meaning → p.view.opening ≡ q.view.opening → p.view.total ≡ q.view.total → LegalNow lawful explains (whole p q r)
       → IsPass lawful explains (record p { view = whole p q r; table = t; books = merge_by book_key q.books p.books; seen = max p.seen q.seen; reserved = reserved })
   whole_at p q t r reserved f g idle l m o tot legal = record {
@@ -158,7 +159,7 @@ module _ {M D : Type 0} (lawful : M → List ℕ → Type 0) (explains : M → L
     drawn = λ u e. let bad : Open ≡ Drawn u = sym idle.0 ∙ e in absurd (cc);
     places = each_merge book_key _ q.books p.books (each_map _ _ (λ b h. each_map _ _ (λ e n. omega arith) b.entries h) q.books g.places) (each_map _ _ (λ b h. each_map _ _ (λ e n. omega arith) b.entries h) p.books f.places);
     ascending = each_merge book_key _ q.books p.books g.ascending f.ascending;
-    readers = each_merge book_key _ q.books p.books (readers_on explains q.view (whole p q r) (grows_right p q r l m o tot) q.books g.readers) (readers_on explains p.view (whole p q r) (grows_left p q r l idle.0 idle.1) p.books f.readers);
+    readers = each_merge book_key _ q.books p.books (readers_on explains q.view (whole p q r) (grows_right p.view q.view r l m o tot) q.books g.readers) (readers_on explains p.view (whole p q r) (grows_left p.view q.view r l) p.books f.readers);
     planned = subst (IsPlanned explains (record p { view = whole p q r; table = t; books = merge_by book_key q.books p.books; seen = max p.seen q.seen; reserved = reserved })) (sym (no_plan lawful explains p f idle.0)) tt;
     written = f.written;
     legal = legal;

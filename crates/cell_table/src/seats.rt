@@ -56,7 +56,7 @@ impl<M: Meaning> CellTable<M> {
 
 impl<M: Meaning> Pass<M> {
     ghost use Rattle.cell_table.specs.declared.view.Event.TheVariants.{ClockLoaded, SeatMoved};
-    ghost use Rattle.cell_table.specs.Steps.{IsIdle};
+    ghost use Rattle.cell_table.specs.Steps.{IsIdle, Grows};
     ghost use Rattle.cell_table.specs.Pass.{IsPassOf, split_kept, split_new, joined, trail_of};
 
     /// A new pass with the n greatest of the numbers held, and their share of the draws. It has seen the same place, and knows what this one knows.
@@ -74,6 +74,7 @@ impl<M: Meaning> Pass<M> {
         ensures of { IsPassOf table.now self.new }
         ensures kept { OnOk result (self.new ≡ split_kept self.old n) }
         ensures new { IfOk result (λ other. IsPassOf table.now other × (other ≡ split_new self.old n other.reserved)) }
+        ensures grows { IfOk result (λ other. Grows self.old.view self.new.view × Grows self.old.view other.view) }
         ensures unchanged { OnErr result (self.new ≡ self.old) }
     {
         let kept = self.ledgers.len() - n as usize;
@@ -103,6 +104,7 @@ impl<M: Meaning> Pass<M> {
         requires room { length self.old.books + length other.books ≤ self.old.room }
         ensures of { IsPassOf table.now self.new }
         ensures view { (place : ℕ) × (self.new ≡ joined self.old other place self.new.reserved) × (self.old.view.known ≤ place) × (other.view.known ≤ place) × (trail_of self.new ≡ trail_of self.old ++ trail_of other ++ SeatMoved ∷ ClockLoaded place ∷ []) }
+        ensures grows { Grows self.old.view self.new.view × Grows other.view self.new.view }
     {
         let Pass {
             seat,

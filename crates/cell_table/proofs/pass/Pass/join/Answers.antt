@@ -2,7 +2,8 @@ use Rattle.std.proofs.Common.{arith, ap, ◌∙◌, length}
 use Rattle.cell_table.specs.Pass.{PassState}
 use Rattle.cell_table.specs.Seats.{noted_books}
 use Rattle.cell_table.proofs.Ledgers.{noted_length, noted_merge}
-use Rattle.cell_table.proofs.SplitJoin.{whole_pass, whole_tied, joined_of, joined_trail, idle_was, same_meaning}
+use Rattle.cell_table.proofs.SplitJoin.{whole_pass, whole_tied, joined_of, joined_trail, idle_was, same_meaning, grows_left, grows_right}
+use Rattle.cell_table.proofs.Passes.{grows_by}
 use Rattle.cell_table.proofs.pass.Pass.join.Goals as goal
 
 pub rejoin-requires-clause-table : goal.rejoin-requires-clause-table
@@ -40,4 +41,10 @@ returns-clause-view g c = (
   (let a = ap (λ (z : PassState g.row.M.Denot g.row.M-Done.Denot). z.view.known) c.self.view_is in let l = c.rejoin.ensures.later in let m = l.0 in omega arith),
   (let a = ap (λ (z : PassState g.row.M.Denot g.row.M-Done.Denot). z.view.known) c.other.view_is in let l = c.rejoin.ensures.later in let m = l.1 in omega arith),
   joined_trail _ _ _ _ _ c.rejoin.result c.self.view_is c.other.view_is c.rejoin.ensures.view,
+)
+
+pub returns-clause-grows : goal.returns-clause-grows
+returns-clause-grows g c = let same = same_meaning _ _ _ _ _ c.self.view_is c.other.view_is c.requires.of.0 c.requires.of.1 in let later = c.rejoin.ensures.later in (
+  grows_by _ _ _ _ c.self.view_is c.rejoin.ensures.view (grows_left c.self.inside.seat.me.0 c.other.inside.seat.me.0 c.rejoin.result (let a = later.0 in let b = later.1 in omega arith)),
+  grows_by _ _ _ _ c.other.view_is c.rejoin.ensures.view (grows_right c.self.inside.seat.me.0 c.other.inside.seat.me.0 c.rejoin.result (let a = later.0 in let b = later.1 in omega arith) same.0 same.1 same.2),
 )

@@ -6,7 +6,8 @@ use Rattle.cell_table.specs.IsPass.{IsPass}
 use Rattle.cell_table.specs.declared.entry.Ledger.{Ledger}
 use Rattle.cell_table.proofs.Ledgers.{noted_length, noted_take, noted_drop}
 use Rattle.cell_table.proofs.Sole.{books_length}
-use Rattle.cell_table.proofs.SplitJoin.{share_fits, kept_pass, new_pass, kept_tied, new_tied, kept_of, new_of, new_belongs, idle_was, kept_reserved, split_share}
+use Rattle.cell_table.proofs.SplitJoin.{share_fits, kept_pass, new_pass, kept_tied, new_tied, kept_of, new_of, new_belongs, idle_was, kept_reserved, split_share, grows_kept, grows_new}
+use Rattle.cell_table.proofs.Passes.{grows_by}
 use Rattle.cell_table.proofs.pass.Pass.split.Goals as goal
 
 pub invariant_of-self : goal.invariant_of-self
@@ -56,3 +57,6 @@ returns-clause-new g c = let a = ap (λ (z : PassState g.row.M.Denot g.row.M-Don
   new_belongs _ _ _ c.cut-seat.result.me.0 _ (c.len.result - c.args.n) _ c.self.view_is c.cut-seat.ensures.new.1 c.cut-seat.ensures.new.0 c.requires.of,
   new_of _ _ c.cut-seat.result.me.0 _ (c.len.result - c.args.n) c.args.n _ _ _ _ c.self.view_is c.cut-seat.ensures.new.0 c.cut-seat.ensures.new.1 (ap noted_books c.in_ok-ledgers.ensures.tail ∙ noted_drop (c.len.result - c.args.n) c.self.inside.ledgers.items) (omega arith) (split_share c.args.n _ _ _ _ c.self.invariant.1.draws (omega arith)) (let x = c.in_ok-held.ensures.exact in let y = c.in_ok-held.ensures.len in omega arith),
 )
+
+pub returns-clause-grows : goal.returns-clause-grows
+returns-clause-grows g c = (grows_by _ _ _ _ c.self.view_is c.cut-seat.ensures.old.1 (grows_kept _ _ _), grows_by _ _ _ _ c.self.view_is c.cut-seat.ensures.new.1 (grows_new _ _ _))
