@@ -6,8 +6,9 @@ pub mod AttemptFacts
 pub mod Giving
 pub mod Locking
 pub mod Checking
-pub mod Parts
 pub mod LateLocks
 pub mod Storing
+pub mod Increments
 pub mod Providing
+pub mod Parts
 pub mod SeenWords

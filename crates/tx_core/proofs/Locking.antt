@@ -15,9 +15,9 @@ use Rattle.cell_table.specs.Pass.{TableState, PassState, IsPassOf}
 use Rattle.attempt_lists.specs.Cells.{Entries, Listed, word_at, word_of, cell_at}
 use Rattle.attempt_lists.specs.Levels.{Levels}
 use Rattle.attempt_lists.specs.Observed.{Observed}
-use Rattle.tx_core.specs.Seen.{LooksOnly, StandsAt, IsSeen, Takes, HoldsOnly, SameOthers}
+use Rattle.tx_core.specs.Seen.{LooksOnly, IsSeen, Takes, HoldsOnly, SameOthers}
 use Rattle.tx_core.specs.Tx.{IsAttempt}
-use Rattle.tx_core.proofs.Looks.{grows_trans, stands_grows, seen_grows, seen_stands}
+use Rattle.tx_core.proofs.Looks.{grows_trans, seen_grows}
 use Rattle.tx_core.proofs.AttemptFacts.{cell_at-push, number_at-push, word_at-push}
 
 pub has_insert : (c cell u : ℕ) (held : List (ℕ × ℕ)) → has c (cells_of (insert_by cell_key (cell, u) held)) ≡ (if eqb cell c then true else has c (cells_of held))

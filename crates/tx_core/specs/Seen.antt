@@ -1,11 +1,14 @@
 -- What the steps of an attempt leave in its pass, and what an observation stands on.
-use Rattle.std.specs.Prelude.{◌≡◌, ◌≢◌, ℕ, ◌-◌, ◌*◌, ◌^◌, ◌<◌, ◌≤◌, true, false, length}
+use Rattle.std.specs.Prelude.{◌≡◌, ◌≢◌, ℕ, ◌-◌, ◌*◌, ◌^◌, ◌<◌, ◌≤◌, true, false, List, length, slice_index}
 use Rattle.cell_table.specs.declared.view.View.{View}
 use Rattle.cell_table.specs.Cells.{has}
 use Rattle.cell_table.specs.Rule.{cells_of}
 use Rattle.cell_table.specs.Sorted.{insert_by}
 use Rattle.cell_table.specs.Steps.{Grows, Reads, Validated, cell_key}
 use Rattle.cell_table.specs.Pass.{PassState, with_view}
+use Rattle.attempt_lists.specs.Cells.{Entries, cell_at}
+use Rattle.tx_core.specs.declared.stop.Stop.{Stop}
+use Rattle.tx_core.specs.Causes.{IsFoundAt}
 
 module _ {M D : Type 0} where
   -- loads of words: the view knows what it knew, and its attempt has come no further
@@ -38,6 +41,14 @@ module _ {M D : Type 0} where
     pub small : 2 * u < 2 ^ 64
     pub stands : u ≤ version → StandsAt v version cell x u
     pub held : version < u → has cell (cells_of v.held) ≡ true
+
+  -- The stop was found at an observation of a cell that isn't held, and each such one before it is still the newest up to the place that the view knows
+  pub record IsFirstChanged (v : View M D) (observations : Entries) (versions : List ℕ) (stop : Stop) : Type 0 where
+    pub place : ℕ
+    pub in_range : place < length observations
+    pub free : has (cell_at observations place) (cells_of v.held) ≡ false
+    pub found : IsFoundAt (cell_at observations place) stop
+    pub before : (j : ℕ) → j < place → has (cell_at observations j) (cells_of v.held) ≡ false → Validated v (cell_at observations j) (slice_index versions j) v.known
 
   -- cells were given back: the pass knows what it knew, and its books are as before
   pub record GivesBack (p q : PassState M D) : Type 0 where

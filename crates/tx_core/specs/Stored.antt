@@ -5,6 +5,7 @@ use Rattle.cell_table.specs.declared.view.Noted.{Noted}
 use Rattle.cell_table.specs.declared.view.NotedBook.{NotedBook}
 use Rattle.cell_table.specs.Steps.{Grows, IsStoredOrUndecided}
 use Rattle.cell_table.specs.Pass.{PassState, note, version_drawn}
+use Rattle.cell_table.specs.Writers.{replay, writers_in}
 use Rattle.attempt_lists.specs.Cells.{Entries}
 
 module _ {D : Type 0} where
@@ -29,3 +30,7 @@ module _ {M D : Type 0} where
     pub draws : q.view.draws ≡ p.view.draws
     pub held : q.view.held ≡ p.view.held
     pub room : q.room ≡ p.room
+
+  -- the cells after the writers of the pass's books
+  abbrev pub cells_left : PassState M D → List ℕ
+  cells_left p = replay p.view.opening (writers_in p.books)

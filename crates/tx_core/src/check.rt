@@ -1,12 +1,12 @@
 //! Validation: whether what was observed is still so.
-ghost use Rattle.std.specs.Prelude.{◌≡◌, ℕ, ◌+◌, ◌<◌, ◌≤◌, true, false, length, slice_index, is_some, IsOk, IfErr, OnOk};
+ghost use Rattle.std.specs.Prelude.{◌≡◌, ℕ, ◌+◌, ◌<◌, ◌≤◌, true, false, length, slice_index, is_some, IsOk, IfErr, OnOk, OnErr};
 ghost use Rattle.cell_table.specs.Cells.{has};
 ghost use Rattle.cell_table.specs.Rule.{cells_of, callers_of};
 ghost use Rattle.cell_table.specs.Steps.{Validated};
 ghost use Rattle.cell_table.specs.Pass.{IsPassOf, IsSole, trail_of};
 ghost use Rattle.attempt_lists.specs.Cells.{word_at, cell_at, word_of};
 ghost use Rattle.tx_core.specs.Causes.{IsCaused, IsCausedAt, GrewBy};
-ghost use Rattle.tx_core.specs.Seen.{LooksOnly, IsSeen};
+ghost use Rattle.tx_core.specs.Seen.{LooksOnly, IsSeen, IsFirstChanged};
 
 use crate::steps::still;
 use crate::stop::Stop;
@@ -30,7 +30,8 @@ fn check_one<M: Meaning>(
     ensures ok { OnOk result (has seen.cell (cells_of pass.old.view.held) ≡ false → Validated pass.new.view seen.cell seen.version pass.old.view.known) }
     ensures sole { IsSole pass.old → pass.old.seen ≤ version → IsOk result }
     ensures steps { GrewBy 1 (trail_of pass.old) (trail_of pass.new) }
-    ensures cause { IfErr result (IsCaused (callers_of pass.old.view.books) version (length (trail_of pass.old)) (trail_of pass.new)) }
+    ensures free { OnErr result (has seen.cell (cells_of pass.old.view.held) ≡ false) }
+    ensures cause { IfErr result (IsCausedAt seen.cell (callers_of pass.old.view.books) version (length (trail_of pass.old)) (trail_of pass.new)) }
 {
     if held.get(seen.cell).is_some() {
         return Ok(());
@@ -56,10 +57,13 @@ pub(crate) fn check<M: Meaning>(
     ensures ok { OnOk result ((i : ℕ) → i < length reads.now.observations → has (cell_at reads.now.observations i) (cells_of pass.old.view.held) ≡ false → Validated pass.new.view (cell_at reads.now.observations i) (slice_index reads.now.versions i) pass.old.view.known) }
     ensures sole { IsSole pass.old → pass.old.seen ≤ version → IsOk result }
     ensures steps { GrewBy (length reads.now.observations) (trail_of pass.old) (trail_of pass.new) }
+    ensures first { IfErr result (IsFirstChanged pass.new.view reads.now.observations reads.now.versions) }
     ensures cause { IfErr result (IsCaused (callers_of pass.old.view.books) version (length (trail_of pass.old)) (trail_of pass.new)) }
 {
     for i in 0..reads.len() {
-        check_one(table, pass, reads.at(i), held, version)?;
+        if let Err(stop) = check_one(table, pass, reads.at(i), held, version) {
+            return Err(stop);
+        }
     }
     Ok(())
 }

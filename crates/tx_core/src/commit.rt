@@ -12,12 +12,22 @@ impl<'a, M: Meaning> Tx<'a, M> {
     ghost use Rattle.cell_table.specs.Cells.{has};
     ghost use Rattle.cell_table.specs.Rule.{callers_of, cells_of};
     ghost use Rattle.cell_table.specs.declared.view.Stage.TheVariants.{Drawn};
+    ghost use Rattle.cell_table.specs.Writers.{Alone};
     ghost use Rattle.cell_table.specs.Steps.{IsIdle, Grows, Observes};
     ghost use Rattle.cell_table.specs.Pass.{IsHeld, IsPassOf, IsSole, note, trail_of, version_drawn};
     ghost use Rattle.attempt_lists.specs.Cells.{cell_at, word_at, word_of};
     ghost use Rattle.tx_core.specs.declared.stop.TxState.TheVariants.{Running, Stopped};
     ghost use Rattle.tx_core.specs.Causes.{CausedSince, FoundTwice, IsFoundAt, IsOfOne, GrewBy};
     ghost use Rattle.tx_core.specs.Seen.{HoldsOnly};
+
+    /// The books of a pass with every caller number tell all that happened to the cells. An attempt begins at or after all
+    /// that its pass has seen, so those books tell what it reads.
+    pub fn alone(&self)
+        ensures sole { IsSole self.now.pass → Alone self.now.pass }
+        ensures begun { self.now.pass.seen ≤ self.now.version }
+    {
+        self.pass.alone();
+    }
 
     /// Takes the locks of the written cells that aren't held yet, in ascending order. Takes no memory.
     ///

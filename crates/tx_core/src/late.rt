@@ -21,7 +21,7 @@ impl<'a, M: Meaning> Tx<'a, M> {
     ghost use Rattle.attempt_lists.specs.Cells.{word_at, word_of, cell_at, put};
     ghost use Rattle.tx_core.specs.declared.stop.TxState.TheVariants.{Running, Child, ChildStopped, Stopped};
     ghost use Rattle.tx_core.specs.Causes.{CausedSince, FoundTwice, IsFoundAt, IsFound, GrewBy};
-    ghost use Rattle.tx_core.specs.Seen.{LooksOnly, HoldsOnly, KnowsMore, SameOthers};
+    ghost use Rattle.tx_core.specs.Seen.{LooksOnly, HoldsOnly, KnowsMore, IsFirstChanged, SameOthers};
     ghost use Rattle.tx_core.specs.Tx.{ObservedLate};
 
     /// Takes the lock of a cell in the commit, whatever its version is, unless the cell was observed and has changed. It
@@ -157,6 +157,7 @@ impl<'a, M: Meaning> Tx<'a, M> {
         ensures same { OnOk result (self.new ≡ record self.old { pass = self.new.pass; committing = true }) }
         ensures stopped { IfErr result (λ stop. IsFound stop × (self.new ≡ record self.old { pass = self.new.pass; state = Stopped; committing = true })) }
         ensures cause { IfErr result (CausedSince (callers_of self.old.pass.view.books) self.old.version (length (trail_of self.old.pass)) (trail_of self.new.pass)) }
+        ensures first { IfErr result (IsFirstChanged self.new.pass.view self.old.observations self.old.versions) }
         ensures knows { KnowsMore self.old.pass self.new.pass }
         ensures steps { GrewBy (1 + length self.old.observations) (trail_of self.old.pass) (trail_of self.new.pass) }
         ensures sole { IsSole self.old.pass → IsOk result }

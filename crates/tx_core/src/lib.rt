@@ -2,19 +2,23 @@
 //! commit stands at one place.
 #![tactic(auto)]
 
+#[cfg(test)]
+mod addition_tests;
 mod additions;
 mod agreed;
 mod check;
 mod commit;
 mod gives;
 mod hold;
+#[cfg(test)]
+mod increment;
 mod late;
 mod locks;
 mod peek;
 mod spare;
 mod steps;
-mod stores;
 mod stop;
+mod stores;
 mod tx;
 mod untold;
 

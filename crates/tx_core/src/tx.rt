@@ -47,13 +47,13 @@ impl<'a, M: Meaning> Tx<'a, M> {
     ghost use Rattle.cell_table.specs.declared.view.Event.TheVariants.{ClockLoaded};
     ghost use Rattle.cell_table.specs.declared.view.Stage.TheVariants.{Open, Drawn};
     ghost use Rattle.cell_table.specs.Steps.{IsIdle, Grows, clocked, Observes};
-    ghost use Rattle.cell_table.specs.Pass.{IsPassOf, IsSole, IsHeld, trail_of, note};
+    ghost use Rattle.cell_table.specs.Pass.{IsPassOf, IsSole, IsHeld, trail_of, note, with_view};
     ghost use Rattle.attempt_lists.specs.Cells.{Entries, word_at, word_of, cell_at, put, IsAscending};
     ghost use Rattle.attempt_lists.specs.Parts.{waiting_of};
     ghost use Rattle.tx_core.specs.declared.stop.Stop.TheVariants.{Held, Newer, Memory};
     ghost use Rattle.tx_core.specs.declared.stop.TxState.TheVariants.{Running, Child, ChildStopped, Stopped};
     ghost use Rattle.tx_core.specs.Causes.{CausedSince, IsOfCell, IsFound, GrewBy};
-    ghost use Rattle.tx_core.specs.Seen.{LooksOnly, StandsAt, HoldsOnly, SameOthers};
+    ghost use Rattle.tx_core.specs.Seen.{LooksOnly, StandsAt, HoldsOnly, IsFirstChanged, SameOthers};
     ghost use Rattle.tx_core.specs.Tx.{Observed};
     ghost use Rattle.tx_core.specs.Parts.{Shows};
 
@@ -66,7 +66,6 @@ impl<'a, M: Meaning> Tx<'a, M> {
         mut pass: Pass<M>,
     ) -> Result<Tx<'a, M>, (Pass<M>, AllocError)>
         requires of { IsPassOf table.now pass }
-        requires few { table.now.callers ≤ 4096 }
         requires idle { IsIdle pass.view }
         requires draw { 0 < pass.view.draws }
         ensures table { IfOk result (λ tx. tx.table ≡ table.now) }
@@ -75,6 +74,7 @@ impl<'a, M: Meaning> Tx<'a, M> {
         ensures version { IfOk result (λ tx. (trail_of tx.pass ≡ trail_of pass ++ ClockLoaded tx.version ∷ []) × (pass.seen ≤ tx.version)) }
         ensures refused { IfErr result (λ back. back.0 ≡ pass) }
     {
+        table.limits();
         if let Err(memory) = pass.reserve() {
             return Err((pass, memory));
         }
@@ -264,10 +264,12 @@ impl<'a, M: Meaning> Tx<'a, M> {
         ensures same { OnOk result (self.new ≡ record self.old { pass = self.new.pass; committing = true }) }
         ensures stopped { IfErr result (λ stop. IsFound stop × (self.new ≡ record self.old { pass = self.new.pass; state = Stopped; committing = true })) }
         ensures cause { IfErr result (CausedSince (callers_of self.old.pass.view.books) self.old.version (length (trail_of self.old.pass)) (trail_of self.new.pass)) }
+        ensures first { IfErr result (IsFirstChanged self.new.pass.view self.old.observations self.old.versions) }
         ensures sole { IsSole self.old.pass → IsOk result }
         ensures draws { self.new.pass.view.draws ≡ self.old.pass.view.draws - 1 }
         ensures held { self.new.pass.view.held ≡ self.old.pass.view.held }
-        ensures books { self.new.pass.books ≡ self.old.pass.books }
+        ensures pass { self.new.pass ≡ with_view self.old.pass self.new.pass.view }
+        ensures grows { Grows self.old.pass.view self.new.pass.view }
         ensures steps { GrewBy (1 + length self.old.observations) (trail_of self.old.pass) (trail_of self.new.pass) }
     {
         self.committing = true;

@@ -1,4 +1,4 @@
-use Rattle.std.proofs.Common.{◌≡◌, ◌+◌, ◌*◌, length, subst, ap, sym, arith}
+use Rattle.std.proofs.Common.{◌+◌, ◌*◌, length, subst, ap, arith}
 use Rattle.cell_table.specs.Pass.{IsHeld, trail_of}
 use Rattle.cell_table.specs.Rule.{callers_of}
 use Rattle.attempt_lists.specs.Cells.{cell_at}
@@ -38,11 +38,10 @@ returns-in-Err-clause-steps g c = grew_more (2 * (c.loop-index.index + 1)) _ _ _
 pub returns-in-Err-clause-cause : goal.returns-in-Err-clause-cause
 returns-in-Err-clause-cause g c =
     let found = c.in-Err.ensures.cause in
-    let lt = ap length c.parent-index-end.ensures.entries in
-    (
+    let lt = ap length c.parent-index-end.ensures.entries in (
       (cell_at c.args.writes.now.parent c.loop-index.index, word_there c.args.writes.now.parent c.loop-index.index (omega (arith, lt)), found.1),
       subst (λ bs. CausedSince (callers_of bs) c.args.version (length (trail_of c.args.pass.now)) (trail_of c.lock_at.new.pass) c.in-Err.stop) c.loop-index.invariant.pass.books
-      (caused_earlier _ _ _ _ _ _ (length_grown _ _ _ c.loop-index.invariant.grew) found.0),
+          (caused_earlier _ _ _ _ _ _ (length_grown _ _ _ c.loop-index.invariant.grew) found.0),
     )
 
 pub returns-in-Err-clause-twice : goal.returns-in-Err-clause-twice

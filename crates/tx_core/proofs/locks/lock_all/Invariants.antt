@@ -1,4 +1,3 @@
-use Rattle.std.proofs.Common.{length}
 use Rattle.tx_core.proofs.LateLocks.{IsLocking}
 use Rattle.tx_core.proofs.locks.lock_all.Given as goal
 

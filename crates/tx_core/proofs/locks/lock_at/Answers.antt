@@ -1,4 +1,4 @@
-use Rattle.std.proofs.Common.{◌≡◌, ◌<◌, ap, sym, refl, length, arith, slice_index_or}
+use Rattle.std.proofs.Common.{◌<◌, ap, refl, length}
 use Rattle.attempt_lists.specs.Cells.{Entries, cell_at}
 use Rattle.tx_core.proofs.AttemptFacts.{attempt_looks}
 use Rattle.tx_core.proofs.Locking.{others_takes, held_takes}

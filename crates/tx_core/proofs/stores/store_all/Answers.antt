@@ -1,5 +1,4 @@
-use Rattle.std.proofs.Common.{◌≡◌, ℕ, ◌<◌, List, length, slice_index_or, ap, sym, ◌∙◌, arith}
-use Rattle.cell_table.specs.declared.view.Book.{Book}
+use Rattle.std.proofs.Common.{◌≡◌, ℕ, ◌<◌, length, slice_index_or, ap, ◌∙◌, arith}
 use Rattle.cell_table.specs.Pass.{MayPut, IsHeld}
 use Rattle.attempt_lists.specs.Cells.{Entries, cell_at, word_of}
 use Rattle.tx_core.specs.Stored.{last_writes}

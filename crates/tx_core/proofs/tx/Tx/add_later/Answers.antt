@@ -1,5 +1,4 @@
-use Rattle.std.proofs.Common.{◌≡◌, ◌+◌, ◌<◌, ◌^◌, false, length, ap, ◌∙◌, arith}
-use Rattle.attempt_lists.specs.Levels.{Levels}
+use Rattle.std.proofs.Common.{◌≡◌, ◌+◌, length, ap, arith}
 use Rattle.tx_core.specs.declared.spare.Spare.{Spare}
 use Rattle.tx_core.proofs.AttemptFacts.{attempt_widens, attempt_reserves, attempt_rooms}
 use Rattle.tx_core.proofs.Providing.{provided_moves, provided_adds, twice_later}
@@ -13,19 +12,18 @@ invariant_of-self-2 g c =
     let observations : c.in-Some.spare.observations ≡ c.self.inside.spare.observations + 2 = ap (λ (s : Spare). s.observations) c.in-Some.ensures.more in
     let writes : c.in-Some.spare.writes ≡ c.self.inside.spare.writes + 2 = ap (λ (s : Spare). s.writes) c.in-Some.ensures.more in
     let wide = provided_moves c.self.inside.pass c.reserve_more_locks.new.pass c.self.inside.reads c.reserve.new.self c.self.inside.writes c.reserve-2.new.self c.self.inside.held c.reserve_more_locks.new.held c.self.inside.additions c.self.inside.spare c.self.inside.committing a c.in_ok-reserve_more_locks.ensures.locks
-        (omega (arith, a.spare_locks, c.in_ok-reserve_more_locks.ensures.ok))
-        (omega (arith, a.spare_observations, c.in_ok-reserve.ensures.ok))
-        (omega (arith, a.spare_writes, c.in_ok-reserve-2.ensures.ok))
-        (λ before. omega (arith, a.room before, c.in_ok-reserve_more_locks.ensures.ok, ap length c.in_ok-reserve-2.ensures.parent)) in
-    (
+    (omega (arith, a.spare_locks, c.in_ok-reserve_more_locks.ensures.ok))
+    (omega (arith, a.spare_observations, c.in_ok-reserve.ensures.ok))
+    (omega (arith, a.spare_writes, c.in_ok-reserve-2.ensures.ok))
+    (λ before. omega (arith, a.room before, c.in_ok-reserve_more_locks.ensures.ok, ap length c.in_ok-reserve-2.ensures.parent)) in (
       attempt_rooms _ _ _ _ c.self.inside.writes c.reserve-2.new.self _ _ c.reserve-2.ensures.parent c.reserve-2.ensures.child
-      (attempt_reserves _ _ _ c.self.inside.reads c.reserve.new.self _ _ _ c.reserve.ensures.observations c.reserve.ensures.versions
-      (attempt_widens _ _ c.self.inside.pass c.reserve_more_locks.new.pass _ _ c.self.inside.held c.reserve_more_locks.new.held _ c.self.invariant.0 c.in_ok-reserve_more_locks.ensures.pass c.in_ok-reserve_more_locks.ensures.entries)),
+          (attempt_reserves _ _ _ c.self.inside.reads c.reserve.new.self _ _ _ c.reserve.ensures.observations c.reserve.ensures.versions
+          (attempt_widens _ _ c.self.inside.pass c.reserve_more_locks.new.pass _ _ c.self.inside.held c.reserve_more_locks.new.held _ c.self.invariant.0 c.in_ok-reserve_more_locks.ensures.pass c.in_ok-reserve_more_locks.ensures.entries)),
       provided_adds _ _ _ _ _ c.later.new.self _ c.in-Some.spare _ wide
-      (omega (arith, locks, a.spare_locks, c.in_ok-reserve_more_locks.ensures.ok))
-      (omega (arith, observations, a.spare_observations, c.in_ok-reserve.ensures.ok))
-      (omega (arith, writes, a.spare_writes, c.in_ok-reserve-2.ensures.ok))
-      c.in-Some.ensures.few
-      (λ before. omega (arith, locks, a.room before, c.in_ok-reserve_more_locks.ensures.ok, ap length c.in_ok-reserve-2.ensures.parent))
-      (λ before. rw c.in-Some.ensures.more (twice_later c.self.inside.spare _ _ c.args.part c.args.value (a.twice before) c.in_ok-later.ensures.ok)),
+          (omega (arith, locks, a.spare_locks, c.in_ok-reserve_more_locks.ensures.ok))
+          (omega (arith, observations, a.spare_observations, c.in_ok-reserve.ensures.ok))
+          (omega (arith, writes, a.spare_writes, c.in_ok-reserve-2.ensures.ok))
+          c.in-Some.ensures.few
+          (λ before. omega (arith, locks, a.room before, c.in_ok-reserve_more_locks.ensures.ok, ap length c.in_ok-reserve-2.ensures.parent))
+          (λ before. rw c.in-Some.ensures.more (twice_later c.self.inside.spare _ _ c.args.part c.args.value (a.twice before) c.in_ok-later.ensures.ok)),
     )

@@ -1,8 +1,7 @@
-use Rattle.std.proofs.Common.{◌≡◌, ◌≤◌, slice_index, inl, inr, ap, sym, ◌∙◌, arith}
+use Rattle.std.proofs.Common.{◌≡◌, slice_index, inl, inr, ap, sym, ◌∙◌, arith}
 use Rattle.std.proofs.lemmas.Bool.{cases_Bool}
 use Rattle.cell_table.specs.Cells.{has}
 use Rattle.cell_table.specs.Rule.{cells_of}
-use Rattle.cell_table.specs.declared.view.View.{View}
 use Rattle.cell_table.specs.declared.view.Stage.TheVariants.{Open}
 use Rattle.cell_table.specs.Pass.{PassState}
 use Rattle.attempt_lists.specs.Cells.{cell_at, word_of}
@@ -20,16 +19,14 @@ check-requires-clause-observed g c =
 
 pub invariant_of-self : goal.invariant_of-self
 invariant_of-self g c =
-    let knows = knows_then_looks _ _ _ (clocked_knows c.self.inside.pass c.clock-place.new.pass c.clock-place.result c.clock-place.ensures.view c.clock-place.ensures.later.1) c.in-Ok.ensures.looks in
-    (
+    let knows = knows_then_looks _ _ _ (clocked_knows c.self.inside.pass c.clock-place.new.pass c.clock-place.result c.clock-place.ensures.view c.clock-place.ensures.later.1) c.in-Ok.ensures.looks in (
       attempt_knows _ _ c.self.inside.pass c.check.new.pass _ _ _ _ knows c.in-Ok.ensures.of (attempt_commits _ _ _ _ _ _ _ c.self.invariant.0),
       provided_places c.self.inside.pass c.check.new.pass _ _ _ _ _ _ (ap (λ (s : PassState _ _). s.places) knows.is) (provided_commits _ _ _ _ _ _ _ c.self.invariant.1),
     )
 
 pub invariant_of-self-in-Err : goal.invariant_of-self-in-Err
 invariant_of-self-in-Err g c =
-    let knows = knows_then_looks _ _ _ (clocked_knows c.self.inside.pass c.clock-place.new.pass c.clock-place.result c.clock-place.ensures.view c.clock-place.ensures.later.1) c.in-Err.ensures.looks in
-    (
+    let knows = knows_then_looks _ _ _ (clocked_knows c.self.inside.pass c.clock-place.new.pass c.clock-place.result c.clock-place.ensures.view c.clock-place.ensures.later.1) c.in-Err.ensures.looks in (
       attempt_knows _ _ c.self.inside.pass c.check.new.pass _ _ _ _ knows c.in-Err.ensures.of (attempt_commits _ _ _ _ _ _ _ c.self.invariant.0),
       provided_places c.self.inside.pass c.check.new.pass _ _ _ _ _ _ (ap (λ (s : PassState _ _). s.places) knows.is) (provided_commits _ _ _ _ _ _ _ c.self.invariant.1),
     )

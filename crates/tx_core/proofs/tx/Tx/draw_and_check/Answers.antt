@@ -7,7 +7,7 @@ use Rattle.cell_table.specs.Steps.{Grows}
 use Rattle.cell_table.specs.Pass.{PassState}
 use Rattle.attempt_lists.specs.Cells.{cell_at, word_of}
 use Rattle.tx_core.specs.Tx.{Attempt}
-use Rattle.tx_core.proofs.Looks.{observes_grows, drawn_grows, stands_unheld}
+use Rattle.tx_core.proofs.Looks.{grows_trans, observes_grows, drawn_grows, stands_unheld}
 use Rattle.tx_core.proofs.Providing.{provided_places, provided_commits}
 use Rattle.tx_core.proofs.AttemptFacts.{attempt_looks, attempt_commits, attempt_draws}
 use Rattle.tx_core.proofs.tx.Tx.draw_and_check.Goals as goal
@@ -22,8 +22,7 @@ check-requires-clause-observed g c =
 pub invariant_of-self : goal.invariant_of-self
 invariant_of-self g c =
     let some : c.self.inside.pass.view.held ≢ [] = λ none. c.requires.holds (ap (λ (a : Attempt _ _). a.pass.view.held) (sym c.self.view_is) ∙ none) in
-    let drew = attempt_draws _ _ c.self.inside.pass c.draw-drawn.new.pass _ _ _ c.draw-drawn.result (attempt_commits _ _ _ _ _ _ _ c.self.invariant.0) c.draw-drawn.ensures.view c.draw-drawn.ensures.of c.draw-drawn.ensures.later.1 some in
-    (
+    let drew = attempt_draws _ _ c.self.inside.pass c.draw-drawn.new.pass _ _ _ c.draw-drawn.result (attempt_commits _ _ _ _ _ _ _ c.self.invariant.0) c.draw-drawn.ensures.view c.draw-drawn.ensures.of c.draw-drawn.ensures.later.1 some in (
       attempt_looks _ _ c.draw-drawn.new.pass c.check.new.pass _ _ _ _ c.in-Ok.ensures.looks c.in-Ok.ensures.of drew,
       provided_places c.self.inside.pass c.check.new.pass _ _ _ _ _ _ (ap (λ (s : PassState _ _). s.places) c.in-Ok.ensures.looks.0 ∙ ap (λ (s : PassState _ _). s.places) c.draw-drawn.ensures.view) (provided_commits _ _ _ _ _ _ _ c.self.invariant.1),
     )
@@ -31,8 +30,7 @@ invariant_of-self g c =
 pub invariant_of-self-in-Err : goal.invariant_of-self-in-Err
 invariant_of-self-in-Err g c =
     let some : c.self.inside.pass.view.held ≢ [] = λ none. c.requires.holds (ap (λ (a : Attempt _ _). a.pass.view.held) (sym c.self.view_is) ∙ none) in
-    let drew = attempt_draws _ _ c.self.inside.pass c.draw-drawn.new.pass _ _ _ c.draw-drawn.result (attempt_commits _ _ _ _ _ _ _ c.self.invariant.0) c.draw-drawn.ensures.view c.draw-drawn.ensures.of c.draw-drawn.ensures.later.1 some in
-    (
+    let drew = attempt_draws _ _ c.self.inside.pass c.draw-drawn.new.pass _ _ _ c.draw-drawn.result (attempt_commits _ _ _ _ _ _ _ c.self.invariant.0) c.draw-drawn.ensures.view c.draw-drawn.ensures.of c.draw-drawn.ensures.later.1 some in (
       attempt_looks _ _ c.draw-drawn.new.pass c.check.new.pass _ _ _ _ c.in-Err.ensures.looks c.in-Err.ensures.of drew,
       provided_places c.self.inside.pass c.check.new.pass _ _ _ _ _ _ (ap (λ (s : PassState _ _). s.places) c.in-Err.ensures.looks.0 ∙ ap (λ (s : PassState _ _). s.places) c.draw-drawn.ensures.view) (provided_commits _ _ _ _ _ _ _ c.self.invariant.1),
     )
@@ -58,3 +56,16 @@ returns-in-Ok-clause-check g c = rw (← c.self.view_is) (λ i lt.
         omega (arith, known),
       )
     ])
+
+-- the draw and the looks only tell more
+pub returns-in-Ok-clause-grows : goal.returns-in-Ok-clause-grows
+returns-in-Ok-clause-grows g c =
+    let view = ap (λ (s : PassState _ _). s.view) c.draw-drawn.ensures.view in
+    let grown : Grows c.self.inside.pass.view c.draw-drawn.new.pass.view = rw view (drawn_grows c.self.inside.pass.view c.draw-drawn.result c.draw-drawn.ensures.later.1) in
+    rw (ap (λ (a : Attempt _ _). a.pass) (sym c.self.view_is)) (grows_trans _ _ _ grown c.in-Ok.ensures.looks.1.grows)
+
+pub returns-in-Err-clause-grows : goal.returns-in-Err-clause-grows
+returns-in-Err-clause-grows g c =
+    let view = ap (λ (s : PassState _ _). s.view) c.draw-drawn.ensures.view in
+    let grown : Grows c.self.inside.pass.view c.draw-drawn.new.pass.view = rw view (drawn_grows c.self.inside.pass.view c.draw-drawn.result c.draw-drawn.ensures.later.1) in
+    rw (ap (λ (a : Attempt _ _). a.pass) (sym c.self.view_is)) (grows_trans _ _ _ grown c.in-Err.ensures.looks.1.grows)

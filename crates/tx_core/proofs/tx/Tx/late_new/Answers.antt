@@ -1,7 +1,4 @@
-use Rattle.std.proofs.Common.{◌≡◌, ◌<◌, ◌≤◌, ◌+◌, ◌-◌, ◌++◌, ◌∷◌, [], true, false, None, length, ap, sym, arith, refl, ◌∙◌, inl, inr}
-use Rattle.std.proofs.lemmas.Bool.{cases_lt}
-use Rattle.cell_table.specs.Cells.{has}
-use Rattle.cell_table.specs.Rule.{cells_of}
+use Rattle.std.proofs.Common.{◌≡◌, ◌<◌, ◌-◌, ◌++◌, ◌∷◌, [], true, false, None, length, ap, sym, arith, refl, ◌∙◌}
 use Rattle.cell_table.specs.Steps.{Reads}
 use Rattle.cell_table.specs.Pass.{PassState}
 use Rattle.cell_table.specs.declared.view.Stage.TheVariants.{Open}
@@ -61,11 +58,10 @@ invariant_of-self g c =
     let locks : 0 < c.self.inside.spare.locks = rw (ap (λ (a : Attempt _ _). a.spare.locks) c.self.view_is) c.requires.spare.0 in
     let observations : 0 < c.self.inside.spare.observations = rw (ap (λ (a : Attempt _ _). a.spare.observations) c.self.view_is) c.requires.spare.1 in
     let room : IsProvided c.self.inside.pass c.self.inside.reads c.self.inside.writes c.self.inside.held c.self.inside.additions c.self.inside.spare true = rw (← committing) c.self.invariant.1 in
-    let t = locked g c in
-    (
+    let t = locked g c in (
       attempt_locks_new _ _ c.self.inside.pass c.self.inside.pass c.look_value-value.new.pass c.self.inside.reads c.push_reserved-in-Ok.new.self _ c.self.inside.held c.self.inside.held c.push_reserved.new.self _ c.args.cell c.in-Ok.version c.look_value-value.result
-      c.self.invariant.0 refl refl t c.look_value-value.ensures.of (stage_open g c) c.push_reserved.ensures.entries there unobserved c.push_reserved-in-Ok.ensures.observations c.push_reserved-in-Ok.ensures.versions
-      (seen_new g c) (λ early. absurd (true_false (sym committing ∙ early))),
+          c.self.invariant.0 refl refl t c.look_value-value.ensures.of (stage_open g c) c.push_reserved.ensures.entries there unobserved c.push_reserved-in-Ok.ensures.observations c.push_reserved-in-Ok.ensures.versions
+          (seen_new g c) (λ early. absurd (true_false (sym committing ∙ early))),
       rw committing (provided_observes _ _ _ _ _ _ _ (provided_locks c.self.inside.pass c.look_value-value.new.pass _ _ c.self.inside.held c.push_reserved.new.self _ _ room (omega (arith, ap (λ (s : PassState _ _). s.places) t.is, room.locks, room.spare_locks, locks)) c.push_reserved.ensures.reserved locks) c.push_reserved-in-Ok.ensures.reserved observations),
     )
   where

@@ -1,4 +1,4 @@
-use Rattle.std.proofs.Common.{◌≡◌, false, ◌<◌, ◌≤◌, length, ap, sym, arith, IsSome, refl, ◌∙◌}
+use Rattle.std.proofs.Common.{◌≡◌, false, ◌<◌, length, ap, sym, arith, IsSome, refl, ◌∙◌}
 use Rattle.std.specs.Option.{option_or}
 use Rattle.cell_table.specs.Pass.{PassState}
 use Rattle.cell_table.specs.declared.view.Stage.TheVariants.{Open}
@@ -16,15 +16,14 @@ invariant_of-self-in-Ok-lock_seen g c =
     let there : c.args.cell < length c.self.inside.table.now.opening = rw (ap (λ (a : Attempt _ _). a.table) c.self.view_is) c.requires.cell in
     let before : c.self.inside.committing ≡ false = ap (λ (a : Attempt _ _). a.committing) c.self.view_is ∙ c.requires.before_commit in
     let stage : c.self.inside.pass.view.stage ≡ Open = c.self.invariant.0.nothing_drawn before in
-    let some : IsSome (option_or (word_at c.self.inside.writes.parent c.args.cell) (word_at c.self.inside.reads.observations c.args.cell)) = rw (ap (λ (a : Attempt _ _). a.writes) c.self.view_is, ap (λ (a : Attempt _ _). a.observations) c.self.view_is) c.requires.known in
-    (
+    let some : IsSome (option_or (word_at c.self.inside.writes.parent c.args.cell) (word_at c.self.inside.reads.observations c.args.cell)) = rw (ap (λ (a : Attempt _ _). a.writes) c.self.view_is, ap (λ (a : Attempt _ _). a.observations) c.self.view_is) c.requires.known in (
       attempt_locks_known _ _ c.self.inside.pass c.reserve_lock.new.pass c.lock_seen.new.pass _ _ c.self.inside.held c.reserve_lock.new.held c.push_reserved.new.self _ c.args.cell c.in-Ok-lock_seen.version
-      c.self.invariant.0 c.in-Ok.ensures.pass c.in-Ok.ensures.entries c.in-Ok-lock_seen.ensures.takes c.in-Ok-lock_seen.ensures.of stage
-      c.push_reserved.ensures.entries there (λ r w. not_both (rw (w, r) at some) refl) c.in-Ok-lock_seen.ensures.seen,
+          c.self.invariant.0 c.in-Ok.ensures.pass c.in-Ok.ensures.entries c.in-Ok-lock_seen.ensures.takes c.in-Ok-lock_seen.ensures.of stage
+          c.push_reserved.ensures.entries there (λ r w. not_both (rw (w, r) at some) refl) c.in-Ok-lock_seen.ensures.seen,
       provided_moves _ _ _ _ _ _ _ c.push_reserved.new.self _ _ _ c.self.invariant.1
-      (omega (arith, c.push_reserved.ensures.reserved, c.in-Ok.ensures.locks, ap (λ (s : PassState _ _). s.places) c.in-Ok-lock_seen.ensures.takes.is))
-      (omega (arith, c.self.invariant.1.room before, c.in-Ok.ensures.ok, c.push_reserved.ensures.reserved, ap length c.parent.ensures.entries)) c.self.invariant.1.spare_observations c.self.invariant.1.spare_writes
-      (λ early. omega (arith, c.in-Ok.ensures.ok, c.push_reserved.ensures.reserved, ap length c.parent.ensures.entries)),
+          (omega (arith, c.push_reserved.ensures.reserved, c.in-Ok.ensures.locks, ap (λ (s : PassState _ _). s.places) c.in-Ok-lock_seen.ensures.takes.is))
+          (omega (arith, c.self.invariant.1.room before, c.in-Ok.ensures.ok, c.push_reserved.ensures.reserved, ap length c.parent.ensures.entries)) c.self.invariant.1.spare_observations c.self.invariant.1.spare_writes
+          (λ early. omega (arith, c.in-Ok.ensures.ok, c.push_reserved.ensures.reserved, ap length c.parent.ensures.entries)),
     )
 
 pub invariant_of-self-in-Err : goal.invariant_of-self-in-Err

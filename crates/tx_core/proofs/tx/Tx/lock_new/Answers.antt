@@ -40,19 +40,18 @@ invariant_of-self-in-Ok-lock_cell g c =
     let before : c.self.inside.committing ≡ false = ap (λ (a : Attempt _ _). a.committing) c.self.view_is ∙ c.requires.before_commit in
     let stage : c.self.inside.pass.view.stage ≡ Open = c.self.invariant.0.nothing_drawn before in
     let unobserved : word_at c.self.inside.reads.observations c.args.cell ≡ None = rw (ap (λ (a : Attempt _ _). a.observations) c.self.view_is) c.requires.unobserved in
-    let t = takes_then_looks _ _ _ _ _ c.in-Ok-lock_cell.ensures.takes (looks_by c.lock_cell.new.pass c.look_value-value.new.pass _ c.look_value-value.ensures.view (valued_is _ _ _)) in
-    (
-    attempt_locks_new _ _ c.self.inside.pass c.reserve_lock.new.pass c.look_value-value.new.pass c.self.inside.reads c.push_reserved-in-Ok-lock_cell.new.self _ c.self.inside.held c.reserve_lock.new.held c.push_reserved.new.self _ c.args.cell c.in-Ok-lock_cell.version c.look_value-value.result
-    c.self.invariant.0 c.in-Ok.ensures.pass c.in-Ok.ensures.entries t c.look_value-value.ensures.of stage
-    c.push_reserved.ensures.entries there unobserved
-    (c.push_reserved-in-Ok-lock_cell.ensures.observations ∙ ap (λ es. es ++ (c.args.cell, c.look_value-value.result) ∷ []) c.reserve.ensures.observations)
-    (c.push_reserved-in-Ok-lock_cell.ensures.versions ∙ ap (λ vs. vs ++ c.in-Ok-lock_cell.version ∷ []) c.reserve.ensures.versions)
-    (seen_stands _ _ _ _ _ (stands_new g c)) (λ early. c.in-Ok-lock_cell.ensures.version.0),
-    provided_moves _ _ _ c.push_reserved-in-Ok-lock_cell.new.self _ _ _ c.push_reserved.new.self _ _ _ c.self.invariant.1
-    (omega (arith, c.push_reserved.ensures.reserved, c.in-Ok.ensures.locks, ap (λ (s : PassState _ _). s.places) t.is))
-    (omega (arith, c.self.invariant.1.room before, c.in-Ok.ensures.ok, c.push_reserved.ensures.reserved, ap length c.parent.ensures.entries))
-    (omega (arith, c.self.invariant.1.spare_observations, c.in-Ok-reserve.ensures.ok, c.push_reserved-in-Ok-lock_cell.ensures.reserved)) c.self.invariant.1.spare_writes
-    (λ early. omega (arith, c.in-Ok.ensures.ok, c.push_reserved.ensures.reserved, ap length c.parent.ensures.entries)),
+    let t = takes_then_looks _ _ _ _ _ c.in-Ok-lock_cell.ensures.takes (looks_by c.lock_cell.new.pass c.look_value-value.new.pass _ c.look_value-value.ensures.view (valued_is _ _ _)) in (
+      attempt_locks_new _ _ c.self.inside.pass c.reserve_lock.new.pass c.look_value-value.new.pass c.self.inside.reads c.push_reserved-in-Ok-lock_cell.new.self _ c.self.inside.held c.reserve_lock.new.held c.push_reserved.new.self _ c.args.cell c.in-Ok-lock_cell.version c.look_value-value.result
+          c.self.invariant.0 c.in-Ok.ensures.pass c.in-Ok.ensures.entries t c.look_value-value.ensures.of stage
+          c.push_reserved.ensures.entries there unobserved
+          (c.push_reserved-in-Ok-lock_cell.ensures.observations ∙ ap (λ es. es ++ (c.args.cell, c.look_value-value.result) ∷ []) c.reserve.ensures.observations)
+          (c.push_reserved-in-Ok-lock_cell.ensures.versions ∙ ap (λ vs. vs ++ c.in-Ok-lock_cell.version ∷ []) c.reserve.ensures.versions)
+          (seen_stands _ _ _ _ _ (stands_new g c)) (λ early. c.in-Ok-lock_cell.ensures.version.0),
+      provided_moves _ _ _ c.push_reserved-in-Ok-lock_cell.new.self _ _ _ c.push_reserved.new.self _ _ _ c.self.invariant.1
+          (omega (arith, c.push_reserved.ensures.reserved, c.in-Ok.ensures.locks, ap (λ (s : PassState _ _). s.places) t.is))
+          (omega (arith, c.self.invariant.1.room before, c.in-Ok.ensures.ok, c.push_reserved.ensures.reserved, ap length c.parent.ensures.entries))
+          (omega (arith, c.self.invariant.1.spare_observations, c.in-Ok-reserve.ensures.ok, c.push_reserved-in-Ok-lock_cell.ensures.reserved)) c.self.invariant.1.spare_writes
+          (λ early. omega (arith, c.in-Ok.ensures.ok, c.push_reserved.ensures.reserved, ap length c.parent.ensures.entries)),
     )
 
 pub returns-in-Ok-lock_cell-clause-observes : goal.returns-in-Ok-lock_cell-clause-observes

@@ -1,4 +1,4 @@
-use Rattle.std.proofs.Common.{◌≡◌, ap, sym, ◌∙◌}
+use Rattle.std.proofs.Common.{ap, ◌∙◌}
 use Rattle.cell_table.specs.Steps.{Observes}
 use Rattle.cell_table.specs.Pass.{PassState}
 use Rattle.tx_core.specs.Tx.{Attempt}

@@ -1,7 +1,5 @@
-use Rattle.std.proofs.Common.{◌≡◌, ◌+◌, ◌<◌, length, sym, ap, ◌∙◌, arith}
-use Rattle.cell_table.specs.declared.view.View.{View}
-use Rattle.cell_table.specs.Pass.{PassState, trail_of}
-use Rattle.tx_core.specs.Causes.{GrewBy}
+use Rattle.std.proofs.Common.{length, sym, ap, ◌∙◌}
+use Rattle.cell_table.specs.Pass.{PassState}
 use Rattle.tx_core.specs.Tx.{Attempt}
 use Rattle.tx_core.proofs.Looks.{each_from_places, grows_trans}
 use Rattle.tx_core.proofs.Found.{grew_trans}
@@ -13,8 +11,7 @@ pub store_all-requires-clause-drawn : goal.store_all-requires-clause-drawn
 store_all-requires-clause-drawn g c =
     let checked = c.requires.checked in
     let pass = ap (λ (a : Attempt _ _). a.pass) c.self.view_is in
-    let observations = ap (λ (a : Attempt _ _). a.observations) c.self.view_is in
-    (
+    let observations = ap (λ (a : Attempt _ _). a.observations) c.self.view_is in (
       checked.0,
       rw pass checked.1,
       record {

@@ -2,10 +2,9 @@ use Rattle.std.proofs.Common.{◌≡◌, ◌-◌, ◌<◌, true, is_some, length
 use Rattle.cell_table.specs.Cells.{has}
 use Rattle.cell_table.specs.Rule.{cells_of}
 use Rattle.attempt_lists.specs.Cells.{word_at}
-use Rattle.attempt_lists.specs.Levels.{written}
 use Rattle.tx_core.specs.Tx.{Attempt}
 use Rattle.tx_core.proofs.AttemptFacts.{attempt_writes, attempt_commits, in_keys}
-use Rattle.tx_core.proofs.Providing.{provided_commits, provided_adds, provided_moves, left_fits}
+use Rattle.tx_core.proofs.Providing.{left_fits}
 use Rattle.tx_core.proofs.tx.Tx.write_reserved.Goals as goal
 
 -- a held cell is one of the table, and its write takes a place that was kept
@@ -15,8 +14,7 @@ invariant_of-self g c =
     let held : has c.args.cell (cells_of c.self.inside.pass.view.held) ≡ true = rw (ap (λ (a : Attempt _ _). a.pass) c.self.view_is) c.requires.held in
     let there : c.args.cell < length c.self.inside.table.now.opening = in_keys (λ d. d < length c.self.inside.table.now.opening) c.self.inside.held.entries c.args.cell c.self.invariant.0.in_table (sym (c.self.invariant.0.holds c.args.cell) ∙ held) in
     let before : c.is_some-written.result ≡ is_some (word_at c.self.inside.writes.parent c.args.cell) = rw (c.is_some-written.ensures, c.get.ensures, c.self.invariant.0.no_child) refl in
-    let left = left_fits (is_some (word_at c.self.inside.writes.parent c.args.cell)) c.self.inside.spare.writes c.self.inside.writes.reserved c.left_after-self-inside.result c.put_reserved.new.self.reserved (c.left_after-self-inside.ensures ∙ ap (λ b. c.self.inside.spare.writes - (if b then 0 else 1)) before) c.put_reserved.ensures.reserved a.spare_writes in
-    (
+    let left = left_fits (is_some (word_at c.self.inside.writes.parent c.args.cell)) c.self.inside.spare.writes c.self.inside.writes.reserved c.left_after-self-inside.result c.put_reserved.new.self.reserved (c.left_after-self-inside.ensures ∙ ap (λ b. c.self.inside.spare.writes - (if b then 0 else 1)) before) c.put_reserved.ensures.reserved a.spare_writes in (
       attempt_writes _ _ _ _ c.self.inside.writes c.put_reserved.new.self _ _ c.args.cell c.args.value (attempt_commits _ _ _ _ _ _ _ c.self.invariant.0) there c.put_reserved.ensures.parent c.put_reserved.ensures.child c.put_reserved.ensures.words,
       record {
         locks = a.locks;
