@@ -1,7 +1,6 @@
 //! A slot's word replaced by another, in the first slot of a walk that can be had.
-ghost use Rattle.std.specs.Prelude.{◌≡◌, ℕ, ◌+◌, ◌*◌, ◌^◌, ◌<◌, ◌≤◌, false, length, Some, IfOk, IfErr, OnOk, OnErr, MatchOption};
-ghost use Rattle.cell_table.specs.Pass.{trail_of, IsSole};
-ghost use Rattle.tx_core.specs.declared.stop.Stop.TheVariants.{Memory};
+ghost use Rattle.std.specs.Prelude.{◌≡◌, ℕ, ◌+◌, ◌*◌, ◌^◌, ◌<◌, ◌≤◌, IfOk, IfErr, OnOk, MatchOption};
+ghost use Rattle.cell_table.specs.Pass.{trail_of};
 ghost use Rattle.tx_core.specs.declared.stop.TxState.TheVariants.{Running, Stopped};
 ghost use Rattle.tx_core.specs.Causes.{IsFound, GrewBy};
 ghost use Rattle.tx_core.specs.Parts.{Explains};

@@ -1,4 +1,4 @@
-//! Where a pool stands.
+//! Which cells a pool has, and its calls.
 ghost use Rattle.std.specs.Prelude.{◌≡◌, ℕ, ◌+◌, ◌-◌, ◌*◌, ◌%◌, ◌^◌, ◌<◌, ◌≤◌, true, false, length, Some, None, IfSome, IfOk, IfErr, MatchOption};
 ghost use Rattle.cell_table.specs.Rule.{callers_of};
 ghost use Rattle.cell_table.specs.Pass.{IsSole, trail_of};
@@ -16,10 +16,14 @@ use cell_table::Meaning;
 use serial_terms::laws::pools_are_counts;
 use tx_core::{Stop, Tx};
 
-/// A pool: the first of its cells, and the number of its slots, each one cell.
+/// A pool in the `slots` cells from `base` on, one slot a cell.
+///
+/// The cell has 0 where its slot is empty, else the slot's item plus 1.
 #[derive(Clone, Copy, Debug, PartialEq, Eq)]
 pub struct PoolPart {
+    /// The cell of the first slot.
     pub base: u32,
+    /// How many slots the pool has.
     pub slots: u32,
 }
 

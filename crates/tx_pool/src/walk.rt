@@ -1,10 +1,9 @@
 //! The walk once round the slots of a pool.
-ghost use Rattle.std.specs.Prelude.{◌≡◌, ℕ, ◌+◌, ◌*◌, ◌%◌, ◌^◌, ◌<◌, ◌≤◌, false, length, None, MatchOption};
+ghost use Rattle.std.specs.Prelude.{◌≡◌, ℕ, ◌+◌, ◌*◌, ◌^◌, ◌<◌, ◌≤◌, false, length, None, MatchOption};
 ghost use Rattle.cell_table.specs.Pass.{trail_of};
 ghost use Rattle.attempt_lists.specs.Cells.{word_at};
 ghost use Rattle.tx_core.specs.declared.stop.TxState.TheVariants.{Running};
 ghost use Rattle.tx_core.specs.Causes.{FoundSince, GrewBy};
-ghost use Rattle.tx_pool.specs.Pool.{slot_at};
 ghost use Rattle.tx_pool.specs.Steps.{Tells, WalkTells, UnfitBy, IsNoUnfit};
 ghost use Rattle.tx_pool.specs.Walk.{HasWord, IsFit, MayCall};
 ghost use Rattle.tx_pool.specs.declared.walk.Walked.TheVariants.{NoneFit, Stopped};
