@@ -20,6 +20,8 @@ mod spare;
 mod steps;
 mod stop;
 mod stores;
+#[cfg(test)]
+mod tests;
 mod tx;
 mod untold;
 

@@ -1,0 +1,23 @@
+use Rattle.std.proofs.Common.{◌≡◌, ◌<◌, length, true, false, [], ap, sym, ◌∙◌}
+use Rattle.cell_table.specs.Cells.{has}
+use Rattle.cell_table.specs.Rule.{cells_of}
+use Rattle.attempt_lists.specs.Cells.{cell_at}
+use Rattle.tx_core.specs.Tx.{Attempt}
+use Rattle.tx_core.proofs.LateLocks.{word_there}
+use Rattle.tx_core.proofs.tests.commit.Goals as goal
+
+-- the first written cell is held
+pub draw_and_check-requires-clause-holds : goal.draw_and_check-requires-clause-holds
+draw_and_check-requires-clause-holds c = λ none.
+    let first = cell_at c.args.tx.writes 0 in
+    let held = c.in-Ok.ensures.all_held first (word_there c.args.tx.writes 0 c.requires.some_write) in
+    nothing (ap (λ held. has first (cells_of held)) (sym none) ∙ held)
+  where
+    nothing : false ≡ true → ⊥
+    nothing e = cc
+
+pub publish-requires-clause-checked : goal.publish-requires-clause-checked
+publish-requires-clause-checked c =
+    let d = c.in-Ok-draw_and_check.version in
+    let same = ap (λ (a : Attempt _ _). a.observations) c.in-Ok-draw_and_check.ensures.same in
+    (d, c.in-Ok-draw_and_check.ensures.drawn.0, rw same c.in-Ok-draw_and_check.ensures.check)
