@@ -3,7 +3,7 @@ ghost use Rattle.cell_table.specs.Steps.{IsIdle};
 ghost use Rattle.cell_table.specs.Pass.{IsPassOf, IsSole};
 ghost use Rattle.tx_core.specs.declared.stop.TxState.TheVariants.{Running};
 
-use crate::{Stop, Tx, Untold};
+use crate::{Stop, Tx, TxState, Untold};
 use cell_table::{CellTable, Pass};
 use std::test::Fail;
 
@@ -25,6 +25,30 @@ fn commit(mut tx: Tx<'_, Untold>) -> Result<(u64, Pass<Untold>), (Stop, Pass<Unt
         Ok(version) => Ok((version, tx.publish())),
         Err(stop) => Err((stop, tx.abort())),
     }
+}
+
+// The second caller holds cell 0 before the first one reads it.
+#[test]
+fn a_held_cell_stops_the_reader_and_comes_back_free(rt: HostRuntime) -> Result<(), Fail> {
+    let (table, mut first) = CellTable::open(rt.alloc(), Untold, &[0, 0], 2)?;
+    let second = first.split(rt.alloc(), &table, 1)?;
+    let Ok(mut a) = Tx::begin(rt.alloc(), &table, first) else {
+        panic!(rt; "the first attempt begins");
+    };
+    let Ok(mut b) = Tx::begin(rt.alloc(), &table, second) else {
+        panic!(rt; "the second attempt begins");
+    };
+    assert_eq!(rt; b.hold(0), Ok(0));
+    let Err(stop) = a.read(0) else {
+        panic!(rt; "cell 0 is held");
+    };
+    assert_eq!(rt; stop, Stop::Held { cell: 0, owner: 1 });
+    assert_eq!(rt; a.state(), TxState::Stopped);
+    let mut first = a.abort();
+    let _ = b.abort();
+    assert_eq!(rt; table.look_lock(&mut first, 0), 0);
+    assert_eq!(rt; table.look_lock(&mut first, 1), 0);
+    Ok(())
 }
 
 // The first caller has only written the cell, so a newer version of it is no matter.
