@@ -1,6 +1,5 @@
 //! What an attempt adds to parts of the structures when it commits.
-ghost use Rattle.std.specs.Prelude.{◌≡◌, ◌≢◌, ℕ, ◌+◌, ◌-◌, ◌*◌, ◌^◌, ◌<◌, ◌≤◌, [], ◌∷◌, ◌++◌, true, false, length, slice_index, is_some, Some, None, IsSome, IsNone, IsOk, IfSome, IfOk, IfErr, OnOk, OnErr, MatchOption, ◌⊎◌, if◌then◌else◌};
-ghost use Rattle.std.specs.Option.{option_or};
+ghost use Rattle.std.specs.Prelude.{◌≡◌, ℕ, ◌+◌, ◌*◌, ◌^◌, ◌<◌, [], ◌∷◌, ◌++◌, true, false, length, slice_index, Some, None, IfSome, OnOk, OnErr, MatchOption};
 
 use crate::gives::reserve_more_locks;
 use crate::spare::Spare;
@@ -27,7 +26,7 @@ impl Spare {
 
 impl<'a, M: Meaning> Tx<'a, M> {
     ghost use Rattle.attempt_lists.specs.Parts.{waiting_of, ChangesOnly};
-    ghost use Rattle.tx_core.specs.declared.stop.TxState.TheVariants.{Running, Child, ChildStopped, Stopped};
+    ghost use Rattle.tx_core.specs.declared.stop.TxState.TheVariants.{Running, Stopped};
     ghost use Rattle.tx_core.specs.Additions.{HasSpare, HasTwoEach, more_spare};
 
     /// What is true of every attempt before its commit: for each addition that waits two places of each kind are kept.

@@ -1,5 +1,5 @@
 //! Validation: whether what was observed is still so.
-ghost use Rattle.std.specs.Prelude.{◌≡◌, ℕ, ◌+◌, ◌<◌, ◌≤◌, true, false, length, slice_index, is_some, IsOk, IfErr, OnOk, OnErr};
+ghost use Rattle.std.specs.Prelude.{◌≡◌, ℕ, ◌<◌, ◌≤◌, false, length, slice_index, is_some, IsOk, IfErr, OnOk, OnErr};
 ghost use Rattle.cell_table.specs.Cells.{has};
 ghost use Rattle.cell_table.specs.Rule.{cells_of, callers_of};
 ghost use Rattle.cell_table.specs.Steps.{Validated};

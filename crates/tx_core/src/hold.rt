@@ -1,5 +1,5 @@
 //! Locks that an attempt takes before its commit.
-ghost use Rattle.std.specs.Prelude.{◌≡◌, ◌≢◌, ℕ, ◌+◌, ◌-◌, ◌*◌, ◌<◌, ◌≤◌, [], ◌∷◌, ◌++◌, true, false, length, slice_index, is_some, Some, None, IsSome, IsNone, IsOk, IfOk, IfErr, OnOk, OnErr, MatchOption, ◌⊎◌, if◌then◌else◌};
+ghost use Rattle.std.specs.Prelude.{◌≡◌, ℕ, ◌+◌, ◌<◌, false, length, is_some, Some, None, IsSome, IsOk, IfOk, IfErr, OnOk, ◌⊎◌};
 ghost use Rattle.std.specs.Option.{option_or};
 
 use crate::gives::reserve_lock;
@@ -14,8 +14,8 @@ impl<'a, M: Meaning> Tx<'a, M> {
     ghost use Rattle.cell_table.specs.Rule.{callers_of, cells_of};
     ghost use Rattle.cell_table.specs.Pass.{IsSole, IsHeld, trail_of};
     ghost use Rattle.attempt_lists.specs.Cells.{word_at};
-    ghost use Rattle.tx_core.specs.declared.stop.Stop.TheVariants.{Held, Newer, Memory};
-    ghost use Rattle.tx_core.specs.declared.stop.TxState.TheVariants.{Running, Child, ChildStopped, Stopped};
+    ghost use Rattle.tx_core.specs.declared.stop.Stop.TheVariants.{Memory};
+    ghost use Rattle.tx_core.specs.declared.stop.TxState.TheVariants.{Running, Stopped};
     ghost use Rattle.tx_core.specs.Causes.{CausedSince, IsOfCell, GrewBy, spared_by};
     ghost use Rattle.tx_core.specs.Seen.{LooksOnly, HoldsOnly, SameOthers};
     ghost use Rattle.tx_core.specs.Tx.{Observed};

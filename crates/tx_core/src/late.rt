@@ -1,5 +1,5 @@
 //! Calls of the commit that place additions.
-ghost use Rattle.std.specs.Prelude.{◌≡◌, ◌≢◌, ℕ, ◌+◌, ◌-◌, ◌*◌, ◌<◌, ◌≤◌, [], ◌∷◌, ◌++◌, true, false, length, slice_index, is_some, Some, None, IsSome, IsNone, IsOk, IfOk, IfErr, OnOk, OnErr, MatchOption, ◌⊎◌, if◌then◌else◌};
+ghost use Rattle.std.specs.Prelude.{◌≡◌, ℕ, ◌+◌, ◌-◌, ◌<◌, ◌≤◌, ◌∷◌, ◌++◌, true, false, length, is_some, Some, None, IsSome, IsNone, IsOk, IfOk, IfErr, OnOk, ◌⊎◌, if◌then◌else◌};
 ghost use Rattle.std.specs.Option.{option_or};
 
 use crate::check::check;
@@ -19,7 +19,7 @@ impl<'a, M: Meaning> Tx<'a, M> {
     ghost use Rattle.cell_table.specs.Steps.{Observes};
     ghost use Rattle.cell_table.specs.Pass.{IsSole, IsHeld, trail_of};
     ghost use Rattle.attempt_lists.specs.Cells.{word_at, word_of, cell_at, put};
-    ghost use Rattle.tx_core.specs.declared.stop.TxState.TheVariants.{Running, Child, ChildStopped, Stopped};
+    ghost use Rattle.tx_core.specs.declared.stop.TxState.TheVariants.{Running, Stopped};
     ghost use Rattle.tx_core.specs.Causes.{CausedSince, FoundTwice, IsFoundAt, IsFound, GrewBy};
     ghost use Rattle.tx_core.specs.Seen.{LooksOnly, HoldsOnly, KnowsMore, IsFirstChanged, SameOthers};
     ghost use Rattle.tx_core.specs.Tx.{ObservedLate};

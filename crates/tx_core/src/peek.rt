@@ -1,6 +1,5 @@
 //! Looks that leave the attempt as it was, and the stop that such a look may end in.
-ghost use Rattle.std.specs.Prelude.{◌≡◌, ◌≢◌, ℕ, ◌+◌, ◌-◌, ◌*◌, ◌<◌, ◌≤◌, [], ◌∷◌, ◌++◌, true, false, length, slice_index, is_some, Some, None, IsSome, IsNone, IsOk, IfOk, IfErr, OnOk, OnErr, MatchOption, ◌⊎◌, if◌then◌else◌};
-ghost use Rattle.std.specs.Option.{option_or};
+ghost use Rattle.std.specs.Prelude.{◌≡◌, ℕ, ◌*◌, ◌<◌, false, length, Some, None, IsOk, IfOk, IfErr, OnOk};
 
 use crate::steps::read_cell;
 use crate::stop::{Stop, TxState};
@@ -12,7 +11,7 @@ impl<'a, M: Meaning> Tx<'a, M> {
     ghost use Rattle.cell_table.specs.Steps.{Observes};
     ghost use Rattle.cell_table.specs.Pass.{IsSole, trail_of};
     ghost use Rattle.attempt_lists.specs.Cells.{word_at};
-    ghost use Rattle.tx_core.specs.declared.stop.TxState.TheVariants.{Running, Child, ChildStopped, Stopped};
+    ghost use Rattle.tx_core.specs.declared.stop.TxState.TheVariants.{Running, Stopped};
     ghost use Rattle.tx_core.specs.Causes.{CausedSince, IsFoundAt, IsCaused, FoundSince, GrewBy};
     ghost use Rattle.tx_core.specs.Seen.{LooksOnly};
 

@@ -1,9 +1,9 @@
 //! The reads and locks of single cells.
-ghost use Rattle.std.specs.Prelude.{◌≡◌, ◌≢◌, ℕ, ◌+◌, ◌*◌, ◌/◌, ◌%◌, ◌^◌, ◌<◌, ◌≤◌, true, false, length, slice_index, IsOk, IfOk, IfErr, OnOk, OnErr};
+ghost use Rattle.std.specs.Prelude.{◌≡◌, ℕ, ◌+◌, ◌*◌, ◌/◌, ◌%◌, ◌^◌, ◌<◌, ◌≤◌, false, length, slice_index, IsOk, IfOk, IfErr, OnOk, OnErr};
 ghost use Rattle.cell_table.specs.Cells.{has};
 ghost use Rattle.cell_table.specs.Rule.{cells_of, callers_of};
 ghost use Rattle.cell_table.specs.declared.view.Stage.TheVariants.{Open};
-ghost use Rattle.cell_table.specs.Steps.{IsWord, Reads, Validated};
+ghost use Rattle.cell_table.specs.Steps.{Validated};
 ghost use Rattle.cell_table.specs.Pass.{IsPassOf, IsSole, trail_of};
 ghost use Rattle.attempt_lists.specs.Cells.{cell_at, word_of};
 ghost use Rattle.tx_core.specs.Causes.{IsCausedAt, FoundSince, GrewBy};

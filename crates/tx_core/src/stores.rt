@@ -1,5 +1,5 @@
 //! The stores of a commit. They take no memory: the values are found in the record that the first store has put into the book.
-ghost use Rattle.std.specs.Prelude.{◌≡◌, ℕ, ◌<◌, ◌≤◌, length, slice_index_or, All};
+ghost use Rattle.std.specs.Prelude.{◌≡◌, ℕ, ◌<◌, length, slice_index_or, All};
 ghost use Rattle.std.specs.Map.{keys_of};
 ghost use Rattle.cell_table.specs.declared.view.Stage.TheVariants.{Drawn};
 ghost use Rattle.cell_table.specs.Steps.{AllHeld, MayDecide};

@@ -1,5 +1,5 @@
 //! One attempt.
-ghost use Rattle.std.specs.Prelude.{◌≡◌, ℕ, ◌+◌, ◌-◌, ◌^◌, ◌<◌, ◌≤◌, ◌≢◌, ◌↔◌, List, [], ◌∷◌, ◌++◌, true, false, length, slice_index, slice_set, is_some, Some, None, IsSome, IsTrue, IsOk, IfOk, IfErr, OnOk, OnErr, ◌⊎◌};
+ghost use Rattle.std.specs.Prelude.{◌≡◌, ℕ, ◌+◌, ◌-◌, ◌^◌, ◌<◌, ◌≤◌, ◌≢◌, ◌↔◌, List, [], ◌∷◌, ◌++◌, true, false, length, slice_index, slice_set, Some, None, IsTrue, IsOk, IfOk, IfErr, OnOk, OnErr};
 ghost use Rattle.std.specs.Option.{option_or};
 
 use crate::check::check;
@@ -43,17 +43,17 @@ impl<'a, M: Meaning> Model for Tx<'a, M> {
 
 impl<'a, M: Meaning> Tx<'a, M> {
     ghost use Rattle.cell_table.specs.Cells.{has, after, AllHold};
-    ghost use Rattle.cell_table.specs.Rule.{callers_of, cells_of};
+    ghost use Rattle.cell_table.specs.Rule.{callers_of};
     ghost use Rattle.cell_table.specs.declared.view.Event.TheVariants.{ClockLoaded};
     ghost use Rattle.cell_table.specs.declared.view.Stage.TheVariants.{Open, Drawn};
     ghost use Rattle.cell_table.specs.Steps.{IsIdle, Grows, clocked, Observes};
-    ghost use Rattle.cell_table.specs.Pass.{IsPassOf, IsSole, IsHeld, trail_of, note, with_view};
+    ghost use Rattle.cell_table.specs.Pass.{IsPassOf, IsSole, trail_of, note, with_view};
     ghost use Rattle.attempt_lists.specs.Cells.{Entries, word_at, word_of, cell_at, put, IsAscending};
     ghost use Rattle.attempt_lists.specs.Parts.{waiting_of};
-    ghost use Rattle.tx_core.specs.declared.stop.Stop.TheVariants.{Held, Newer, Memory};
-    ghost use Rattle.tx_core.specs.declared.stop.TxState.TheVariants.{Running, Child, ChildStopped, Stopped};
+    ghost use Rattle.tx_core.specs.declared.stop.Stop.TheVariants.{Memory};
+    ghost use Rattle.tx_core.specs.declared.stop.TxState.TheVariants.{Running, Stopped};
     ghost use Rattle.tx_core.specs.Causes.{CausedSince, IsOfCell, IsFound, GrewBy};
-    ghost use Rattle.tx_core.specs.Seen.{LooksOnly, StandsAt, HoldsOnly, IsFirstChanged, SameOthers};
+    ghost use Rattle.tx_core.specs.Seen.{LooksOnly, IsFirstChanged};
     ghost use Rattle.tx_core.specs.Tx.{Observed};
     ghost use Rattle.tx_core.specs.Parts.{Shows};
 

@@ -1,5 +1,4 @@
 //! What a walk looks for.
-ghost use Rattle.std.specs.Prelude.{true, false};
 ghost use Rattle.tx_pool.specs.Walk.{Fits};
 
 /// What a walk looks for in the slots.
