@@ -54,7 +54,6 @@ module _ {M D : Type 0} (table : TableState M) (version : ℕ) where
   pub attempt_moves : (p q : PassState M D) (reads : Observed) (writes : Levels) (held : Listed) (committing : Bool) → Grows p.view q.view → q.view.held ≡ p.view.held → q.view.stage ≡ p.view.stage → (q.seen ≤ version) × (version ≤ q.view.known) → q.reserved ≡ p.reserved → IsPassOf table q → IsAttempt table p version reads writes held committing → IsAttempt table q version reads writes held committing
   attempt_moves p q reads writes held committing grows kept stage begun reserved of a = record {
     of = of;
-    few = a.few;
     begun = begun;
     observed = λ i lt. seen_grows p.view q.view version _ _ _ grows (λ h. rw kept h) (a.observed i lt);
     written = a.written;
@@ -87,7 +86,6 @@ module _ {M D : Type 0} (table : TableState M) (version : ℕ) where
   pub attempt_observes : (p : PassState M D) (reads more : Observed) (writes : Levels) (held : Listed) (committing : Bool) (cell x u : ℕ) → IsAttempt table p version reads writes held committing → more.observations ≡ reads.observations ++ (cell, x) ∷ [] → more.versions ≡ reads.versions ++ u ∷ [] → IsSeen p.view version cell x u → (committing ≡ false → u ≤ version) → (has cell (cells_of p.view.held) ≡ true → Among (cell, u) p.view.held) → IsAttempt table p version more writes held committing
   attempt_observes p reads more writes held committing cell x u a observations versions seen low pin = record {
     of = a.of;
-    few = a.few;
     begun = a.begun;
     observed = λ i lt. elim (cell_at-push reads.observations (cell, x) i (rw observations at lt)) [
       | inl old ↦ rw (observations, versions, old.1, old.2, (number_at-push reads.versions u i).0 (omega (arith, old.0, a.sized))) (a.observed i old.0)
@@ -117,7 +115,6 @@ module _ {M D : Type 0} (table : TableState M) (version : ℕ) where
   pub attempt_reserves : (p : PassState M D) (reads more : Observed) (writes : Levels) (held : Listed) (committing : Bool) → more.observations ≡ reads.observations → more.versions ≡ reads.versions → IsAttempt table p version reads writes held committing → IsAttempt table p version more writes held committing
   attempt_reserves p reads more writes held committing observations versions a = record {
     of = a.of;
-    few = a.few;
     begun = a.begun;
     observed = λ i lt. rw (observations, versions) (a.observed i (rw observations at lt));
     written = a.written;
@@ -138,7 +135,6 @@ module _ {M D : Type 0} (table : TableState M) (version : ℕ) where
   pub attempt_rooms : (p : PassState M D) (reads : Observed) (writes more : Levels) (held : Listed) (committing : Bool) → more.parent ≡ writes.parent → more.child ≡ writes.child → IsAttempt table p version reads writes held committing → IsAttempt table p version reads more held committing
   attempt_rooms p reads writes more held committing parent child a = record {
     of = a.of;
-    few = a.few;
     begun = a.begun;
     observed = a.observed;
     written = rw parent a.written;
@@ -159,7 +155,6 @@ module _ {M D : Type 0} (table : TableState M) (version : ℕ) where
   pub attempt_writes : (p : PassState M D) (reads : Observed) (writes more : Levels) (held : Listed) (committing : Bool) (cell x : ℕ) → IsAttempt table p version reads writes held committing → cell < length table.opening → more.parent ≡ put writes.parent cell x → more.child ≡ [] → ((c : ℕ) → word_at more.parent c ≡ (if eqb cell c then Some x else word_at writes.parent c)) → IsAttempt table p version reads more held committing
   attempt_writes p reads writes more held committing cell x a there parent child words = record {
     of = a.of;
-    few = a.few;
     begun = a.begun;
     observed = a.observed;
     written = rw parent (All-keys-insert_entry nat_cmp cell x (λ c. c < length table.opening) writes.parent a.written there);
@@ -185,7 +180,6 @@ module _ {M D : Type 0} (table : TableState M) (version : ℕ) where
       let view : q.view ≡ p.view = ap (λ (s : PassState M D). s.view) same in
       record {
         of = rw (view, ap (λ (s : PassState M D). s.table) same) a.of;
-        few = a.few;
         begun = (rw (ap (λ (s : PassState M D). s.seen) same) a.begun.0, rw view a.begun.1);
         observed = λ i lt. rw view (a.observed i lt);
         written = a.written;
@@ -209,7 +203,6 @@ module _ {M D : Type 0} (table : TableState M) (version : ℕ) where
       let kept : q.view.held ≡ p.view.held = ap (λ (v : View M D). v.held) view in
       record {
         of = of;
-        few = a.few;
         begun = (rw (ap (λ (s : PassState M D). s.seen) is) a.begun.0, rw (ap (λ (v : View M D). v.known) view) (omega (arith, a.begun.1)));
         observed = λ i lt. seen_grows p.view q.view version _ _ _ (rw view (drawn_grows p.view d later)) (λ h. rw kept h) (a.observed i lt);
         written = a.written;
@@ -233,7 +226,6 @@ module _ {M D : Type 0} (table : TableState M) (version : ℕ) where
   pub attempt_commits : (p : PassState M D) (reads : Observed) (writes : Levels) (held : Listed) (committing : Bool) → IsAttempt table p version reads writes held committing → IsAttempt table p version reads writes held true
   attempt_commits p reads writes held committing a = record {
     of = a.of;
-    few = a.few;
     begun = a.begun;
     observed = a.observed;
     written = a.written;

@@ -105,7 +105,6 @@ module _ {M D : Type 0} (table : TableState M) (version : ℕ) where
       let all : more.entries ≡ held.entries ++ (cell, u) ∷ [] = pushed ∙ ap (λ (es : Entries). es ++ (cell, u) ∷ []) entries in
       record {
         of = of;
-        few = a.few;
         begun = (rw (ap (λ (s : PassState M D). s.seen) t.is ∙ ap (λ (s : PassState M D). s.seen) same) a.begun.0, rw (t.known ∙ ap (λ (v : View M D). v.known) view) a.begun.1);
         observed = observed;
         written = a.written;

@@ -36,7 +36,6 @@ module _ {M D : Type 0} where
   -- What is true of every attempt: among others, that each observation stands in the pass's view at the attempt's version, or is of a newer version of a held cell
   pub record IsAttempt (table : TableState M) (pass : PassState M D) (version : ℕ) (reads : lists.Observed) (writes : Levels) (held : Listed) (committing : Bool) : Type 0 where
     pub of : IsPassOf table pass
-    pub few : table.callers ≤ 4096
     pub begun : (pass.seen ≤ version) × (version ≤ pass.view.known)
     pub observed : (i : ℕ) → i < length reads.observations → IsSeen pass.view version (cell_at reads.observations i) (word_of reads.observations i) (slice_index reads.versions i)
     pub written : All (λ c. c < length table.opening) (keys_of writes.parent)

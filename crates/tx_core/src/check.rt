@@ -22,7 +22,6 @@ fn check_one<M: Meaning>(
     version: u64,
 ) -> Result<(), Stop>
     requires of { IsPassOf table.now pass.old }
-    requires few { table.now.callers ≤ 4096 }
     requires holds { (c : ℕ) → has c (cells_of pass.old.view.held) ≡ is_some (word_at held.now.entries c) }
     requires observed { IsSeen pass.old.view version seen.cell seen.value seen.version }
     ensures of { IsPassOf table.now pass.new }
@@ -49,7 +48,6 @@ pub(crate) fn check<M: Meaning>(
     version: u64,
 ) -> Result<(), Stop>
     requires of { IsPassOf table.now pass.old }
-    requires few { table.now.callers ≤ 4096 }
     requires holds { (c : ℕ) → has c (cells_of pass.old.view.held) ≡ is_some (word_at held.now.entries c) }
     requires observed { (i : ℕ) → i < length reads.now.observations → IsSeen pass.old.view version (cell_at reads.now.observations i) (word_of reads.now.observations i) (slice_index reads.now.versions i) }
     ensures of { IsPassOf table.now pass.new }

@@ -23,7 +23,6 @@ pub(crate) fn lock_newest<M: Meaning>(
     version: u64,
 ) -> Result<u64, Stop>
     requires of { IsPassOf table.now pass.old }
-    requires few { table.now.callers ≤ 4096 }
     requires cell { cell < length table.now.opening }
     requires free { has cell (cells_of pass.old.view.held) ≡ false }
     requires undrawn { pass.old.view.stage ≡ Open }
@@ -37,6 +36,7 @@ pub(crate) fn lock_newest<M: Meaning>(
     ensures twice { IfErr result (FoundTwice (length (trail_of pass.old)) (trail_of pass.new)) }
     ensures sole { IsSole pass.old → IsOk result }
 {
+    table.limits();
     let word = table.look_lock(pass, cell);
     let Some(found) = free_version(word) else {
         return Err(stop_at(cell, word));
@@ -56,7 +56,6 @@ pub(crate) fn lock_late<M: Meaning>(
     version: u64,
 ) -> Result<u64, Stop>
     requires of { IsPassOf table.now pass.old }
-    requires few { table.now.callers ≤ 4096 }
     requires cell { cell < length table.now.opening }
     requires free { has cell (cells_of pass.old.view.held) ≡ false }
     requires undrawn { pass.old.view.stage ≡ Open }

@@ -37,7 +37,6 @@ pub(crate) fn read_cell<M: Meaning>(
     version: u64,
 ) -> Result<(u64, u64), Stop>
     requires of { IsPassOf table.now pass.old }
-    requires few { table.now.callers ≤ 4096 }
     requires cell { cell < length table.now.opening }
     requires free { has cell (cells_of pass.old.view.held) ≡ false }
     requires known { version ≤ pass.old.view.known }
@@ -49,6 +48,7 @@ pub(crate) fn read_cell<M: Meaning>(
     ensures looked { IfOk result (λ r. FoundSince (length (trail_of pass.old)) (trail_of pass.new) cell (2 * r.1)) }
     ensures cause { IfErr result (IsCausedAt cell (callers_of pass.old.view.books) version (length (trail_of pass.old)) (trail_of pass.new)) }
 {
+    table.limits();
     let first = table.look_lock(pass, cell);
     let Some(found) = free_version(first) else {
         return Err(stop_at(cell, first));
@@ -74,7 +74,6 @@ pub(crate) fn take_from<M: Meaning>(
     from: u64,
 ) -> Result<(), Stop>
     requires of { IsPassOf table.now pass.old }
-    requires few { table.now.callers ≤ 4096 }
     requires cell { cell < length table.now.opening }
     requires free { has cell (cells_of pass.old.view.held) ≡ false }
     requires undrawn { pass.old.view.stage ≡ Open }
@@ -88,6 +87,7 @@ pub(crate) fn take_from<M: Meaning>(
     ensures cause { IfErr result (IsCausedAt cell (callers_of pass.old.view.books) version (length (trail_of pass.old)) (trail_of pass.new)) }
     ensures sole { IsSole pass.old → pass.old.seen ≤ version → IsOk result }
 {
+    table.limits();
     // A pass with every caller number knows the newest version.
     pass.alone();
     match table.take_lock(pass, cell, 2 * from) {
@@ -107,7 +107,6 @@ pub(crate) fn lock_cell<M: Meaning>(
     version: u64,
 ) -> Result<u64, Stop>
     requires of { IsPassOf table.now pass.old }
-    requires few { table.now.callers ≤ 4096 }
     requires cell { cell < length table.now.opening }
     requires free { has cell (cells_of pass.old.view.held) ≡ false }
     requires undrawn { pass.old.view.stage ≡ Open }
@@ -121,6 +120,7 @@ pub(crate) fn lock_cell<M: Meaning>(
     ensures cause { IfErr result (IsCausedAt cell (callers_of pass.old.view.books) version (length (trail_of pass.old)) (trail_of pass.new)) }
     ensures sole { IsSole pass.old → pass.old.seen ≤ version → IsOk result }
 {
+    table.limits();
     let word = table.look_lock(pass, cell);
     let Some(found) = free_version(word) else {
         return Err(stop_at(cell, word));
@@ -143,7 +143,6 @@ pub(crate) fn lock_seen<M: Meaning>(
     version: u64,
 ) -> Result<u64, Stop>
     requires of { IsPassOf table.now pass.old }
-    requires few { table.now.callers ≤ 4096 }
     requires cell { cell < length table.now.opening }
     requires free { has cell (cells_of pass.old.view.held) ≡ false }
     requires undrawn { pass.old.view.stage ≡ Open }
@@ -180,7 +179,6 @@ pub(crate) fn still<M: Meaning>(
     version: u64,
 ) -> Result<(), Stop>
     requires of { IsPassOf table.now pass.old }
-    requires few { table.now.callers ≤ 4096 }
     requires free { has seen.cell (cells_of pass.old.view.held) ≡ false }
     requires observed { StandsAt pass.old.view version seen.cell seen.value seen.version }
     ensures of { IsPassOf table.now pass.new }
@@ -190,6 +188,7 @@ pub(crate) fn still<M: Meaning>(
     ensures steps { GrewBy 1 (trail_of pass.old) (trail_of pass.new) }
     ensures cause { IfErr result (IsCausedAt seen.cell (callers_of pass.old.view.books) version (length (trail_of pass.old)) (trail_of pass.new)) }
 {
+    table.limits();
     let word = table.look_lock(pass, seen.cell);
     if word != 2 * seen.version {
         pass.legal();
