@@ -9,5 +9,7 @@ mod calls;
 mod laws;
 mod part;
 mod resolve;
+#[cfg(test)]
+mod tests;
 
 pub use part::LogPart;

@@ -1,0 +1,138 @@
+ghost use Rattle.std.specs.Prelude.{◌≡◌, ◌≢◌, ℕ, ◌+◌, ◌-◌, ◌^◌, ◌<◌, false, [], length, All};
+ghost use Rattle.cell_table.specs.Steps.{IsIdle};
+ghost use Rattle.cell_table.specs.Pass.{IsPassOf};
+ghost use Rattle.tx_core.specs.declared.stop.TxState.TheVariants.{Running};
+ghost use Rattle.tx_log.specs.Calls.{waiting};
+
+use crate::LogPart;
+use cell_table::{CellTable, Pass};
+use std::process::Abort;
+use std::test::Fail;
+use tx_core::{ResolveEnd, Tx, TxState, Untold};
+
+const TWO: LogPart = LogPart {
+    part: 0,
+    end: 0,
+    capacity: 2,
+};
+
+// Commits an attempt whose log has room for what it adds.
+fn commit(rt: &impl Abort, mut tx: Tx<'_, Untold>) -> Pass<Untold>
+    requires running { tx.state ≡ Running }
+    requires first { tx.committing ≡ false }
+    requires part { 2 < length tx.table.opening }
+    requires small { All (λ v. v + 1 < 2 ^ 64) (waiting TWO tx) }
+    requires some { waiting TWO tx ≢ [] }
+    requires left { 0 < tx.pass.view.draws }
+    ensures of { IsPassOf tx.entry.table result }
+    ensures idle { IsIdle result.view }
+    ensures draws { result.view.draws ≡ tx.entry.pass.view.draws - 1 }
+{
+    tx.provided();
+    tx.vouched();
+    tx.lock_writes().expect(rt, "nothing is to be locked");
+    TWO.resolve(&mut tx).expect(rt, "the additions are placed");
+    tx.draw_and_check().expect(rt, "nothing has changed");
+    tx.publish()
+}
+
+// Expects that the additions that wait make the log too long, and that the attempt goes on.
+fn expect_full(rt: &impl Abort, tx: &mut Tx<'_, Untold>, there: u64, adding: u64)
+    requires running { tx.old.state ≡ Running }
+    requires first { tx.old.committing ≡ false }
+    requires part { 2 < length tx.old.table.opening }
+    requires small { All (λ v. v + 1 < 2 ^ 64) (waiting TWO tx.old) }
+    ensures table { tx.new.table ≡ tx.old.table }
+    ensures draws { tx.new.pass.view.draws ≡ tx.old.pass.view.draws }
+{
+    tx.provided();
+    tx.vouched();
+    let full = ResolveEnd::Full {
+        part: 0,
+        length: there,
+        adding,
+    };
+    assert_eq!(rt; TWO.resolve(tx), Err(full));
+    assert_eq!(rt; tx.state(), TxState::Running);
+}
+
+#[test]
+fn an_attempt_sees_what_it_adds(rt: HostRuntime) -> Result<(), Fail> {
+    let (table, pass) = CellTable::open(rt.alloc(), Untold, &[0, 0, 0], 1)?;
+    let Ok(mut tx) = Tx::begin(rt.alloc(), &table, pass) else {
+        panic!(rt; "the attempt begins");
+    };
+    TWO.append(&mut tx, 3).expect(&rt, "the value is added");
+    assert_eq!(rt; TWO.len(&mut tx), Ok(1));
+    assert_eq!(rt; TWO.read(&mut tx, 0), Ok(Some(3)));
+    assert_eq!(rt; TWO.read(&mut tx, 1), Ok(None));
+    let pass = commit(&rt, tx);
+    assert_eq!(rt; pass.seen(), 1);
+    let Ok(mut tx) = Tx::begin(rt.alloc(), &table, pass) else {
+        panic!(rt; "the next attempt begins");
+    };
+    assert_eq!(rt; TWO.len(&mut tx), Ok(1));
+    let _ = tx.abort();
+    Ok(())
+}
+
+// The log has the value 3.
+#[test]
+fn additions_above_the_capacity_are_refused_at_the_commit(rt: HostRuntime) -> Result<(), Fail> {
+    let (table, pass) = CellTable::open(rt.alloc(), Untold, &[1, 4, 0], 1)?;
+    let Ok(mut tx) = Tx::begin(rt.alloc(), &table, pass) else {
+        panic!(rt; "the attempt begins");
+    };
+    let place = TWO
+        .append_placed(&mut tx, 4)
+        .expect(&rt, "the value is added");
+    assert_eq!(rt; place, 1);
+    TWO.append(&mut tx, 5).expect(&rt, "the value is added");
+    expect_full(&rt, &mut tx, 1, 2);
+    let pass = tx.abort();
+    let Ok(mut tx) = Tx::begin(rt.alloc(), &table, pass) else {
+        panic!(rt; "the next attempt begins");
+    };
+    assert_eq!(rt; TWO.len(&mut tx), Ok(1));
+    let _ = tx.abort();
+    Ok(())
+}
+
+#[test]
+fn a_log_may_be_filled_to_its_capacity(rt: HostRuntime) -> Result<(), Fail> {
+    let (table, pass) = CellTable::open(rt.alloc(), Untold, &[0, 0, 0], 1)?;
+    let Ok(mut tx) = Tx::begin(rt.alloc(), &table, pass) else {
+        panic!(rt; "the attempt begins");
+    };
+    TWO.append(&mut tx, 3).expect(&rt, "the first is added");
+    TWO.append(&mut tx, 4).expect(&rt, "the second is added");
+    let mut pass = commit(&rt, tx);
+    assert_eq!(rt; pass.seen(), 1);
+    assert_eq!(rt; table.look_value(&mut pass, 0), 2);
+    assert_eq!(rt; table.look_value(&mut pass, 1), 4);
+    assert_eq!(rt; table.look_value(&mut pass, 2), 5);
+    Ok(())
+}
+
+// Both callers add a value; the second one commits first.
+#[test]
+fn two_callers_add_without_stopping_one_another(rt: HostRuntime) -> Result<(), Fail> {
+    let (table, mut pass) = CellTable::open(rt.alloc(), Untold, &[0, 0, 0], 2)?;
+    let other = pass.split(rt.alloc(), &table, 1)?;
+    let Ok(mut first) = Tx::begin(rt.alloc(), &table, pass) else {
+        panic!(rt; "the first attempt begins");
+    };
+    let Ok(mut second) = Tx::begin(rt.alloc(), &table, other) else {
+        panic!(rt; "the second attempt begins");
+    };
+    TWO.append(&mut first, 10).expect(&rt, "the value is added");
+    TWO.append(&mut second, 20)
+        .expect(&rt, "the value is added");
+    let other = commit(&rt, second);
+    let mut pass = commit(&rt, first);
+    assert_eq!(rt; (other.seen(), pass.seen()), (1, 2));
+    assert_eq!(rt; table.look_value(&mut pass, 0), 2);
+    assert_eq!(rt; table.look_value(&mut pass, 1), 21);
+    assert_eq!(rt; table.look_value(&mut pass, 2), 11);
+    Ok(())
+}
