@@ -1,16 +1,15 @@
 //! The calls of a log before the commit.
-ghost use Rattle.std.specs.Prelude.{◌≡◌, ◌≢◌, ℕ, ◌+◌, ◌-◌, ◌^◌, ◌<◌, ◌≤◌, ◌⊎◌, false, List, [], ◌∷◌, ◌++◌, length, Some, None, IfOk, IfErr, OnOk, OnErr};
+ghost use Rattle.std.specs.Prelude.{◌≡◌, ℕ, ◌+◌, ◌-◌, ◌<◌, ◌≤◌, ◌⊎◌, false, [], ◌∷◌, ◌++◌, length, Some, None, IfOk, IfErr, OnOk, OnErr};
 ghost use Rattle.std.specs.List.{slice_get};
 ghost use Rattle.cell_table.specs.Rule.{callers_of};
 ghost use Rattle.cell_table.specs.Pass.{IsSole, IsHeld, trail_of};
-ghost use Rattle.attempt_lists.specs.Parts.{waiting_of, ChangesOnly};
-ghost use Rattle.tx_core.specs.declared.stop.Stop.TheVariants.{Held, Newer, Memory};
+ghost use Rattle.attempt_lists.specs.Parts.{ChangesOnly};
+ghost use Rattle.tx_core.specs.declared.stop.Stop.TheVariants.{Memory};
 ghost use Rattle.tx_core.specs.declared.stop.TxState.TheVariants.{Running, Stopped};
 ghost use Rattle.tx_core.specs.Additions.{more_spare};
 ghost use Rattle.tx_core.specs.Causes.{CausedSince, IsOfCell, GrewBy};
 ghost use Rattle.tx_core.specs.Seen.{LooksOnly, HoldsOnly};
 ghost use Rattle.tx_core.specs.Tx.{Observed};
-ghost use Rattle.tx_log.specs.Log.{IsLog, values_in};
 ghost use Rattle.tx_log.specs.Calls.{IsOfThese, TouchesOnly, MakesOf, waiting, known};
 
 use crate::part::LogPart;

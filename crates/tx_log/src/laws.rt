@@ -1,5 +1,5 @@
 //! What is true of the cells of a log.
-ghost use Rattle.std.specs.Prelude.{◌≡◌, ℕ, ◌+◌, ◌<◌, ◌≤◌, false, List, [], length, slice_index};
+ghost use Rattle.std.specs.Prelude.{◌≡◌, ℕ, ◌+◌, ◌<◌, false, List, [], length, slice_index};
 ghost use Rattle.cell_table.specs.Cells.{after, writes_to};
 ghost use Rattle.tx_log.specs.Log.{IsLog, IsOfLog, values_in};
 

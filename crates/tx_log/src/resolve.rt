@@ -1,18 +1,17 @@
 //! The placing of a log's additions at the commit.
-ghost use Rattle.std.specs.Prelude.{◌≡◌, ◌≢◌, ℕ, ◌+◌, ◌-◌, ◌*◌, ◌^◌, ◌<◌, ◌≤◌, ◌⊎◌, false, true, List, [], ◌∷◌, ◌++◌, length, slice_set, All, Some, None, IsOk, IfOk, IfErr, OnOk, OnErr};
+ghost use Rattle.std.specs.Prelude.{◌≡◌, ◌≢◌, ℕ, ◌+◌, ◌*◌, ◌^◌, ◌<◌, ◌≤◌, List, [], ◌++◌, length, slice_set, All, Some, None, IsOk, IfErr, OnOk};
 ghost use Rattle.cell_table.specs.Cells.{after};
 ghost use Rattle.cell_table.specs.Rule.{callers_of};
 ghost use Rattle.cell_table.specs.declared.view.Stage.TheVariants.{Open};
 ghost use Rattle.cell_table.specs.Pass.{IsSole, IsHeld, trail_of};
-ghost use Rattle.attempt_lists.specs.Cells.{word_at, put};
-ghost use Rattle.attempt_lists.specs.Parts.{waiting_of};
+ghost use Rattle.attempt_lists.specs.Cells.{word_at};
 ghost use Rattle.tx_core.specs.declared.stop.TxState.TheVariants.{Running, Stopped};
 ghost use Rattle.tx_core.specs.Additions.{HasSpare};
 ghost use Rattle.tx_core.specs.Causes.{CausedSince, FoundTwice, IsFoundAt, GrewBy};
 ghost use Rattle.tx_core.specs.Seen.{HoldsOnly};
 ghost use Rattle.tx_log.specs.Log.{IsLog, length_in, values_in};
 ghost use Rattle.tx_log.specs.Calls.{TouchesOnly, MakesOf, waiting};
-ghost use Rattle.tx_log.specs.Placing.{UsesAtMost, KeepsOthers, KeepsHeld, HoldsWrites, GoesOn, IsFrom, IsEndOrFrom, IsFoundIn, IsUnseen, FoundLength, IsPlace, IsExtended, IsRefused, IsFullEnd};
+ghost use Rattle.tx_log.specs.Placing.{UsesAtMost, KeepsOthers, KeepsHeld, HoldsWrites, GoesOn, IsFrom, IsEndOrFrom, IsFoundIn, IsUnseen, IsPlace, IsExtended, IsRefused, IsFullEnd};
 
 use crate::part::LogPart;
 use cell_table::Meaning;
