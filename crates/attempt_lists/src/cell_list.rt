@@ -63,6 +63,10 @@ impl CellList {
     pub fn place(&self, cell: u32) -> Option<usize>
         ensures { MatchOption result (word_at self.now.entries cell ≡ None) (λ i. (i < length self.now.entries) × (cell_at self.now.entries i ≡ cell) × (word_at self.now.entries cell ≡ Some (word_of self.now.entries i))) }
     {
+        // Most attempts ask before they have anything: no cell is hashed then.
+        if self.entries.is_empty() {
+            return None;
+        }
         match self.places.get(&cell) {
             Some(place) => Some(*place),
             None => None,
