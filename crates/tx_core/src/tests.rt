@@ -77,6 +77,28 @@ fn a_cell_only_written_may_have_become_newer(rt: HostRuntime) -> Result<(), Fail
     Ok(())
 }
 
+// One caller writes a cell and holds another one.
+#[test]
+fn a_commit_leaves_what_was_written_and_no_more(rt: HostRuntime) -> Result<(), Fail> {
+    let (table, pass) = CellTable::open(rt.alloc(), Untold, &[10, 20, 30], 1)?;
+    let Ok(mut tx) = Tx::begin(rt.alloc(), &table, pass) else {
+        panic!(rt; "the attempt begins");
+    };
+    assert_eq!(rt; tx.read(0).expect(&rt, "cell 0 is read"), 10);
+    tx.write(0, 11).expect(&rt, "cell 0 is written");
+    assert_eq!(rt; tx.read(0).expect(&rt, "the own write is read"), 11);
+    assert_eq!(rt; tx.hold(1).expect(&rt, "cell 1 is held"), 20);
+    let Ok((place, pass)) = commit(tx) else {
+        panic!(rt; "the attempt commits");
+    };
+    assert_eq!(rt; place, 1);
+    let contents = table.close(pass);
+    assert_eq!(rt; (contents.value(0), contents.version(0)), (11, 1));
+    assert_eq!(rt; (contents.value(1), contents.version(1)), (20, 0));
+    assert_eq!(rt; (contents.value(2), contents.version(2)), (30, 0));
+    Ok(())
+}
+
 #[test]
 fn a_commit_of_reads_leaves_the_cells_as_they_were(rt: HostRuntime) -> Result<(), Fail> {
     let (table, pass) = CellTable::open(rt.alloc(), Untold, &[10, 20, 30], 1)?;
