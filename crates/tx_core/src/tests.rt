@@ -1,10 +1,11 @@
-ghost use Rattle.std.specs.Prelude.{◌≡◌, ℕ, ◌+◌, ◌<◌, ◌≤◌, false, length, IfOk, IfErr};
+ghost use Rattle.std.specs.Prelude.{◌≡◌, ℕ, ◌+◌, ◌<◌, ◌≤◌, false, length, [], OnOk, IfOk, IfErr};
 ghost use Rattle.cell_table.specs.Steps.{IsIdle};
 ghost use Rattle.cell_table.specs.Pass.{IsPassOf, IsSole};
 ghost use Rattle.tx_core.specs.declared.stop.TxState.TheVariants.{Running};
 
 use crate::{Stop, Tx, TxState, Untold};
 use cell_table::{CellTable, Pass};
+use std::alloc::Global;
 use std::test::Fail;
 
 // Commits an attempt that writes, unless others stop it.
@@ -25,6 +26,69 @@ fn commit(mut tx: Tx<'_, Untold>) -> Result<(u64, Pass<Untold>), (Stop, Pass<Unt
         Ok(version) => Ok((version, tx.publish())),
         Err(stop) => Err((stop, tx.abort())),
     }
+}
+
+// Commits an attempt that reads one cell, unless others stop it. It answers the value, and the place of its record.
+fn commit_one_read(
+    alloc: Global,
+    table: &CellTable<Untold>,
+    pass: Pass<Untold>,
+    cell: u32,
+) -> Option<(u64, u64)>
+    requires of { IsPassOf table.now pass }
+    requires idle { IsIdle pass.view }
+    requires left { 0 < pass.view.draws }
+    requires cell { cell < length table.now.opening }
+{
+    let Ok(mut tx) = Tx::begin(alloc, table, pass) else {
+        return None;
+    };
+    let Ok(value) = tx.read(cell) else {
+        let _ = tx.abort();
+        return None;
+    };
+    let pass = tx.commit_reads();
+    let _ = pass.callers_held();
+    let record = pass.entries(0).last()?;
+    Some((value, record.place))
+}
+
+// The value of a cell, as the first thing that an attempt reads.
+fn read_first(tx: &mut Tx<'_, Untold>, cell: u32) -> Result<u64, Stop>
+    requires running { tx.old.state ≡ Running }
+    requires first { tx.old.committing ≡ false }
+    requires fresh { (tx.old.observations ≡ []) × (tx.old.writes ≡ []) }
+    requires cell { cell < length tx.old.table.opening }
+    ensures running { OnOk result ((tx.new.state ≡ Running) × (tx.new.committing ≡ false)) }
+    ensures same { (tx.new.table ≡ tx.old.table) × (tx.new.writes ≡ []) × (tx.new.pass.view.draws ≡ tx.old.pass.view.draws) }
+{
+    tx.read(cell)
+}
+
+// The second caller commits 5 to cell 0 between the first one's read and its commit, whose draw is spent.
+#[test]
+fn an_observed_cell_that_changed_refuses_the_commit(rt: HostRuntime) -> Result<(), Fail> {
+    let (table, mut first) = CellTable::open(rt.alloc(), Untold, &[0, 0], 2)?;
+    let second = first.split(rt.alloc(), &table, 1)?;
+    let Ok(mut a) = Tx::begin(rt.alloc(), &table, first) else {
+        panic!(rt; "the first attempt begins");
+    };
+    let Ok(mut b) = Tx::begin(rt.alloc(), &table, second) else {
+        panic!(rt; "the second attempt begins");
+    };
+    assert_eq!(rt; read_first(&mut a, 0).expect(&rt, "cell 0 is read"), 0);
+    b.write(0, 5).expect(&rt, "the second writes");
+    let Ok((place, _)) = commit(b) else {
+        panic!(rt; "the second commits");
+    };
+    assert_eq!(rt; place, 1);
+    a.write(1, 7).expect(&rt, "the first writes");
+    let Err((stop, first)) = commit(a) else {
+        panic!(rt; "the first is refused");
+    };
+    assert_eq!(rt; stop, Stop::Newer { cell: 0, found: 1 });
+    assert_eq!(rt; commit_one_read(rt.alloc(), &table, first, 0), Some((5, 2)));
+    Ok(())
 }
 
 // The second caller holds cell 0 before the first one reads it.
@@ -74,6 +138,28 @@ fn a_cell_only_written_may_have_become_newer(rt: HostRuntime) -> Result<(), Fail
     assert_eq!(rt; place, 2);
     assert_eq!(rt; table.look_lock(&mut first, 0), 4);
     assert_eq!(rt; table.look_value(&mut first, 0), 7);
+    Ok(())
+}
+
+// One caller writes a cell and holds another one.
+#[test]
+fn a_commit_leaves_what_was_written_and_no_more(rt: HostRuntime) -> Result<(), Fail> {
+    let (table, pass) = CellTable::open(rt.alloc(), Untold, &[10, 20, 30], 1)?;
+    let Ok(mut tx) = Tx::begin(rt.alloc(), &table, pass) else {
+        panic!(rt; "the attempt begins");
+    };
+    assert_eq!(rt; tx.read(0).expect(&rt, "cell 0 is read"), 10);
+    tx.write(0, 11).expect(&rt, "cell 0 is written");
+    assert_eq!(rt; tx.read(0).expect(&rt, "the own write is read"), 11);
+    assert_eq!(rt; tx.hold(1).expect(&rt, "cell 1 is held"), 20);
+    let Ok((place, pass)) = commit(tx) else {
+        panic!(rt; "the attempt commits");
+    };
+    assert_eq!(rt; place, 1);
+    let contents = table.close(pass);
+    assert_eq!(rt; (contents.value(0), contents.version(0)), (11, 1));
+    assert_eq!(rt; (contents.value(1), contents.version(1)), (20, 0));
+    assert_eq!(rt; (contents.value(2), contents.version(2)), (30, 0));
     Ok(())
 }
 
