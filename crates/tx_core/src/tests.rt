@@ -163,6 +163,48 @@ fn a_commit_leaves_what_was_written_and_no_more(rt: HostRuntime) -> Result<(), F
     Ok(())
 }
 
+// A commit that locks one cell late, as far as its draw. It answers the cell's value, the place at which all that was
+// observed stands, and the version that was drawn.
+fn lock_late(tx: &mut Tx<'_, Untold>, cell: u32) -> Result<(u64, u64, u64), Stop>
+    requires running { tx.old.state ≡ Running }
+    requires first { tx.old.committing ≡ false }
+    requires cell { cell < length tx.old.table.opening }
+    requires spare { (0 < tx.old.spare.locks) × (0 < tx.old.spare.observations) }
+    requires left { 0 < tx.old.pass.view.draws }
+    ensures table { tx.new.table ≡ tx.old.table }
+{
+    tx.vouched();
+    tx.lock_writes()?;
+    let value = tx.late_hold(cell)?;
+    let place = tx.check_now()?;
+    let drawn = tx.draw_and_check()?;
+    Ok((value, place, drawn))
+}
+
+// The second caller commits 5 to cell 0 after the first one's attempt began.
+#[test]
+fn a_late_lock_takes_a_newer_value_and_validates_it(rt: HostRuntime) -> Result<(), Fail> {
+    let (table, mut first) = CellTable::open(rt.alloc(), Untold, &[3, 4], 2)?;
+    let second = first.split(rt.alloc(), &table, 1)?;
+    let Ok(mut a) = Tx::begin(rt.alloc(), &table, first) else {
+        panic!(rt; "the first attempt begins");
+    };
+    let Ok(mut b) = Tx::begin(rt.alloc(), &table, second) else {
+        panic!(rt; "the second attempt begins");
+    };
+    a.later(0, 9).expect(&rt, "the first adds a value");
+    b.write(0, 5).expect(&rt, "the second writes");
+    let Ok((place, _)) = commit(b) else {
+        panic!(rt; "the second commits");
+    };
+    assert_eq!(rt; place, 1);
+    assert_eq!(rt; lock_late(&mut a, 0), Ok((5, 1, 2)));
+    let mut first = a.abort();
+    assert_eq!(rt; table.look_lock(&mut first, 0), 2);
+    assert_eq!(rt; table.look_value(&mut first, 0), 5);
+    Ok(())
+}
+
 #[test]
 fn a_commit_of_reads_leaves_the_cells_as_they_were(rt: HostRuntime) -> Result<(), Fail> {
     let (table, pass) = CellTable::open(rt.alloc(), Untold, &[10, 20, 30], 1)?;
