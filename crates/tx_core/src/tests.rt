@@ -28,13 +28,14 @@ fn commit(mut tx: Tx<'_, Untold>) -> Result<(u64, Pass<Untold>), (Stop, Pass<Unt
     }
 }
 
-// Commits an attempt that reads one cell, unless others stop it. It answers the value, and the place of its record.
+// Commits an attempt that reads one cell, unless others stop it. It answers the value, the place of its record, and the
+// place that the pass has seen then.
 fn commit_one_read(
     alloc: Global,
     table: &CellTable<Untold>,
     pass: Pass<Untold>,
     cell: u32,
-) -> Option<(u64, u64)>
+) -> Option<(u64, u64, u64)>
     requires of { IsPassOf table.now pass }
     requires idle { IsIdle pass.view }
     requires left { 0 < pass.view.draws }
@@ -50,7 +51,7 @@ fn commit_one_read(
     let pass = tx.commit_reads();
     let _ = pass.callers_held();
     let record = pass.entries(0).last()?;
-    Some((value, record.place))
+    Some((value, record.place, pass.seen()))
 }
 
 // The value of a cell, as the first thing that an attempt reads.
@@ -87,7 +88,10 @@ fn an_observed_cell_that_changed_refuses_the_commit(rt: HostRuntime) -> Result<(
         panic!(rt; "the first is refused");
     };
     assert_eq!(rt; stop, Stop::Newer { cell: 0, found: 1 });
-    assert_eq!(rt; commit_one_read(rt.alloc(), &table, first, 0), Some((5, 2)));
+    assert_eq!(rt;
+        commit_one_read(rt.alloc(), &table, first, 0),
+        Some((5, 2, 2))
+    );
     Ok(())
 }
 
