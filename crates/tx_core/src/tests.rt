@@ -28,13 +28,14 @@ fn commit(mut tx: Tx<'_, Untold>) -> Result<(u64, Pass<Untold>), (Stop, Pass<Unt
     }
 }
 
-// Commits an attempt that reads one cell, unless others stop it. It answers the value, and the place of its record.
+// Commits an attempt that reads one cell, unless others stop it. It answers the value, the place of its record, and the
+// place that the pass has seen then.
 fn commit_one_read(
     alloc: Global,
     table: &CellTable<Untold>,
     pass: Pass<Untold>,
     cell: u32,
-) -> Option<(u64, u64)>
+) -> Option<(u64, u64, u64)>
     requires of { IsPassOf table.now pass }
     requires idle { IsIdle pass.view }
     requires left { 0 < pass.view.draws }
@@ -50,7 +51,7 @@ fn commit_one_read(
     let pass = tx.commit_reads();
     let _ = pass.callers_held();
     let record = pass.entries(0).last()?;
-    Some((value, record.place))
+    Some((value, record.place, pass.seen()))
 }
 
 // The value of a cell, as the first thing that an attempt reads.
@@ -87,7 +88,10 @@ fn an_observed_cell_that_changed_refuses_the_commit(rt: HostRuntime) -> Result<(
         panic!(rt; "the first is refused");
     };
     assert_eq!(rt; stop, Stop::Newer { cell: 0, found: 1 });
-    assert_eq!(rt; commit_one_read(rt.alloc(), &table, first, 0), Some((5, 2)));
+    assert_eq!(rt;
+        commit_one_read(rt.alloc(), &table, first, 0),
+        Some((5, 2, 2))
+    );
     Ok(())
 }
 
@@ -160,6 +164,48 @@ fn a_commit_leaves_what_was_written_and_no_more(rt: HostRuntime) -> Result<(), F
     assert_eq!(rt; (contents.value(0), contents.version(0)), (11, 1));
     assert_eq!(rt; (contents.value(1), contents.version(1)), (20, 0));
     assert_eq!(rt; (contents.value(2), contents.version(2)), (30, 0));
+    Ok(())
+}
+
+// A commit that locks one cell late, as far as its draw. It answers the cell's value, the place at which all that was
+// observed stands, and the version that was drawn.
+fn lock_late(tx: &mut Tx<'_, Untold>, cell: u32) -> Result<(u64, u64, u64), Stop>
+    requires running { tx.old.state ≡ Running }
+    requires first { tx.old.committing ≡ false }
+    requires cell { cell < length tx.old.table.opening }
+    requires spare { (0 < tx.old.spare.locks) × (0 < tx.old.spare.observations) }
+    requires left { 0 < tx.old.pass.view.draws }
+    ensures table { tx.new.table ≡ tx.old.table }
+{
+    tx.vouched();
+    tx.lock_writes()?;
+    let value = tx.late_hold(cell)?;
+    let place = tx.check_now()?;
+    let drawn = tx.draw_and_check()?;
+    Ok((value, place, drawn))
+}
+
+// The second caller commits 5 to cell 0 after the first one's attempt began.
+#[test]
+fn a_late_lock_takes_a_newer_value_and_validates_it(rt: HostRuntime) -> Result<(), Fail> {
+    let (table, mut first) = CellTable::open(rt.alloc(), Untold, &[3, 4], 2)?;
+    let second = first.split(rt.alloc(), &table, 1)?;
+    let Ok(mut a) = Tx::begin(rt.alloc(), &table, first) else {
+        panic!(rt; "the first attempt begins");
+    };
+    let Ok(mut b) = Tx::begin(rt.alloc(), &table, second) else {
+        panic!(rt; "the second attempt begins");
+    };
+    a.later(0, 9).expect(&rt, "the first adds a value");
+    b.write(0, 5).expect(&rt, "the second writes");
+    let Ok((place, _)) = commit(b) else {
+        panic!(rt; "the second commits");
+    };
+    assert_eq!(rt; place, 1);
+    assert_eq!(rt; lock_late(&mut a, 0), Ok((5, 1, 2)));
+    let mut first = a.abort();
+    assert_eq!(rt; table.look_lock(&mut first, 0), 2);
+    assert_eq!(rt; table.look_value(&mut first, 0), 5);
     Ok(())
 }
 
