@@ -80,6 +80,7 @@ module _ {M D : Type 0} (lawful : M → List ℕ → Type 0) (explains : M → L
       let own_fits : Fits m opening total r.owner h' ws' id w = record {
         same = g.same;
         high = g.high;
+        spent = λ e. (let z = g.spent e in omega arith);
         books = each_map _ _ (λ b f. (
           f.0,
           f.1,

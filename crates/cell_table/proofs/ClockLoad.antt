@@ -1,5 +1,5 @@
 -- A load of the clock keeps the rule.
-use Rattle.std.proofs.Common.{◌≡◌, ℕ, ◌<◌, ◌≤◌, List, [], ◌∷◌, length, refl, arith}
+use Rattle.std.proofs.Common.{◌≡◌, ℕ, ◌+◌, ◌*◌, ◌^◌, ◌<◌, ◌≤◌, List, [], ◌∷◌, length, refl, sym, subst, arith}
 use mathlib.Core.Option.{none}
 use Rattle.atomic_table.specs.Table.{State, Me, step, keeps, Allows}
 use Rattle.cell_table.specs.Sorted.{Each}
@@ -12,6 +12,7 @@ use Rattle.cell_table.specs.Steps.{Triples, validate_all, validate_open, clocked
 use Rattle.cell_table.specs.Told.{clock_told}
 use Rattle.cell_table.proofs.Sorted.{each_map}
 use Rattle.cell_table.proofs.Views.{draw_bound, legal, unmoved, held_newest}
+use Rattle.cell_table.proofs.DrawsMade.{draws_made}
 
 pub validated_all : {D : Type 0} (h : ℕ → Outcome D) (n p : ℕ) (held : List (ℕ × ℕ)) (ss : Triples) → p ≤ n → Each (λ t. IsNewest h t.0 t.1 p) held → Each (λ t. (t.2 ≤ n) × IsNewest h t.0 t.1 t.2) ss
     → Each (λ t. (t.2 ≤ n) × IsNewest h t.0 t.1 t.2) (validate_all held p ss)
@@ -43,6 +44,7 @@ module _ {M D : Type 0} (lawful : M → List ℕ → Type 0) (explains : M → L
       let g : FitsIn s r id w = record {
         same = f.same;
         high = f.high;
+        spent = f.spent;
         books = f.books;
         order = f.order;
         known = omega arith;
@@ -54,4 +56,4 @@ module _ {M D : Type 0} (lawful : M → List ℕ → Type 0) (explains : M → L
         stage = f.stage;
         stale = f.stale;
         reading = f.reading;
-      } in (w, keeps, tt, unmoved lawful explains m opening total s r 0 id me.1 v w at refl g, (refl, f.known, (λ e. each_map _ _ (λ t x. x.0) v.held (held_newest lawful explains m opening total s r id v at acting e)), legal lawful explains m opening total s r id w acting g (draw_bound lawful explains m opening total s r id v at), refl))
+      } in (w, keeps, tt, unmoved lawful explains m opening total s r 0 id me.1 v w at refl g, (refl, f.known, (λ e. each_map _ _ (λ t x. x.0) v.held (held_newest lawful explains m opening total s r id v at acting e)), (λ sole. let a = draws_made lawful explains m opening total s r id v at acting sole in let tot = (f.same acting).2 in subst (λ (t : ℕ). n + v.draws ≡ t * 2 ^ 48) (sym tot) a), legal lawful explains m opening total s r id w acting g (draw_bound lawful explains m opening total s r id v at), refl))

@@ -111,6 +111,7 @@ other_fits m opening total owner k id small own h h' ws ws' q j v ne f =
     let apart : actor v.books v.total ≢ k = actor_apart v.total total k id j owner _ small f.high own ne v.books f.books in record {
       same = f.same;
       high = f.high;
+      spent = f.spent;
       books = each_map _ _ (λ b g. (g.0, g.1, g.2 ∙ sym (q.records b.caller (books_apart total k id j owner own ne b g.0)))) v.books f.books;
       order = f.order;
       known = (let g = q.grows in let l = f.known in omega arith);

@@ -64,6 +64,7 @@ module _ {M D : Type 0} (lawful : M → List ℕ → Type 0) (explains : M → L
       let own_fits : Fits m opening total r.owner h ws' id w = record {
         same = g.same;
         high = g.high;
+        spent = g.spent;
         books = subst (λ (i : ℕ). Each (λ b. (r.owner b.caller ≡ id) × (b.caller < total) × (b.records ≡ records_by b.caller h i)) v.books) (sym tick) g.books;
         order = g.order;
         known = (let a = g.known in omega arith);

@@ -15,6 +15,8 @@ pub mod LockStore
 pub mod SeatMove
 pub mod Laws
 pub mod Opening
+pub mod Callers
+pub mod DrawsMade
 pub mod Closing
 pub mod Passes
 pub mod Replay

@@ -74,6 +74,7 @@ module _ {M D : Type 0} (lawful : M → List ℕ → Type 0) (explains : M → L
       let own_fits : Fits m opening total r.owner h ws' id w = record {
         same = g.same;
         high = g.high;
+        spent = g.spent;
         books = subst (λ (n : ℕ). Each (λ b. (r.owner b.caller ≡ id) × (b.caller < total) × (b.records ≡ records_by b.caller h n)) v.books) (sym (clock_kept ws c (2 * k + 1))) g.books;
         order = g.order;
         known = (let a = g.known in let b = q.grows in omega arith);
@@ -147,6 +148,7 @@ module _ {M D : Type 0} (lawful : M → List ℕ → Type 0) (explains : M → L
       let o : FitsIn s r id w = record {
         same = g.same;
         high = g.high;
+        spent = g.spent;
         books = g.books;
         order = g.order;
         known = g.known;

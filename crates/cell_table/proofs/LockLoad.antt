@@ -38,6 +38,7 @@ module _ {M D : Type 0} (lawful : M → List ℕ → Type 0) (explains : M → L
       let g : FitsIn s r id (free_look v c n) = record {
         same = f.same;
         high = f.high;
+        spent = f.spent;
         books = f.books;
         order = f.order;
         known = f.known;
@@ -54,6 +55,7 @@ module _ {M D : Type 0} (lawful : M → List ℕ → Type 0) (explains : M → L
       let g : FitsIn s r id (held_look v c n) = record {
         same = f.same;
         high = f.high;
+        spent = f.spent;
         books = f.books;
         order = f.order;
         known = f.known;

@@ -73,6 +73,7 @@ module _ {M D : Type 0} (lawful : M → List ℕ → Type 0) (explains : M → L
       let own_fits : Fits m opening total r.owner h' ws' id w = record {
         same = g.same;
         high = g.high;
+        spent = g.spent;
         books = each_map _ _ (λ b f. (f.0, f.1, f.2 ∙ sym (ap (records_by b.caller h') tick ∙ recs b.caller))) v.books g.books;
         order = g.order;
         known = (let a = g.known in omega arith);

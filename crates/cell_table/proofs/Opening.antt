@@ -1,5 +1,5 @@
 -- The opening meets the rule.
-use Rattle.std.proofs.Common.{◌≡◌, ℕ, zero, suc, ◌+◌, ◌*◌, ◌<◌, ◌≤◌, List, [], ◌∷◌, ◌++◌, length, get_or, inl, sym, refl, ap, ◌∙◌, subst, arith}
+use Rattle.std.proofs.Common.{◌≡◌, ℕ, zero, suc, ◌+◌, ◌*◌, ◌^◌, ◌<◌, ◌≤◌, List, [], ◌∷◌, ◌++◌, length, get_or, inl, sym, refl, ap, ◌∙◌, subst, arith}
 use mathlib.Core.Option.{some}
 use lib.ListN.{get_elem?}
 use Rattle.cell_table.specs.Sorted.{Each}
@@ -23,6 +23,11 @@ use Rattle.cell_table.proofs.Ledgers.{fresh_writers}
 
 abbrev nobody : ℕ → ℕ
 nobody k = 0
+
+-- a table without callers would have no draws
+start_draws : (D : Type 0) (k n : ℕ) → length (new_books {D = D} k n) ≡ 0 → n * 2 ^ 48 ≡ 0
+start_draws D k zero e = refl
+start_draws D k (suc n) e = absurd (omega arith)
 
 start_books : (D : Type 0) (k n total : ℕ) → k + n ≤ total → Each (λ (b : Book D). (nobody b.caller ≡ zero) × (b.caller < total) × (b.records ≡ [])) (new_books k n)
 start_books D k zero total l = tt
@@ -75,6 +80,7 @@ module _ {M D : Type 0} (lawful : M → List ℕ → Type 0) (explains : M → L
   start_fits = record {
     same = λ _. (refl, refl, refl);
     high = omega arith;
+    spent = start_draws D 0 total;
     books = start_books D 0 total total (omega arith);
     order = start_order D 0 total;
     known = omega arith;

@@ -5,7 +5,7 @@ use mathlib.Core.Option.{some}
 use native.Mathlib.Decide.{ℕ_discrete}
 use lib.ListN.{get_elem?}
 use Rattle.atomic_table.specs.Table.{State}
-use Rattle.cell_table.specs.Sorted.{Each}
+use Rattle.cell_table.specs.Sorted.{Each, merge_by}
 use Rattle.cell_table.specs.Cells.{has}
 use Rattle.cell_table.specs.History.{Outcome, pending}
 use Rattle.cell_table.specs.declared.view.Book.{Book}
@@ -14,6 +14,7 @@ use Rattle.cell_table.specs.declared.view.Stage.TheVariants.{Open, Drawn}
 use Rattle.cell_table.specs.Rule.{lock_of, cells_of, actor, IsClean, FitsStage, Fits, IsAscending, draws_left, Rule}
 use Rattle.cell_table.specs.Steps.{caller_key}
 use Rattle.cell_table.proofs.Histories.{bool_cases}
+use Rattle.cell_table.proofs.Ledgers.{merge_length}
 use Rattle.cell_table.proofs.Sorted.{each_map, each_both, each_append, each_merge, merge_ascends}
 use Rattle.cell_table.proofs.Guarantee.{seats_stay}
 use Rattle.cell_table.proofs.Guarantees.{true_false}
@@ -52,6 +53,17 @@ module _ {D : Type 0} where
   pub in_each : (P : ℕ → Type 0) (k : ℕ) (bs : List (Book D)) → in_books k bs ≡ true → Each (λ b. P b.caller) bs → P k
   in_each P k [] h e = absurd (cc)
   in_each P k (b ∷ bs) h e = dite (ℕ_discrete b.caller k) (λ is. subst P is e.0) (λ n. in_each P k bs (sym (ap (λ (z : Bool). cond z true (in_books k bs)) (ne_eqb b.caller k n)) ∙ h) e.1)
+
+  -- some books stay, and some go
+  pub first_some : (n : ℕ) (bs : List (Book D)) → 0 < n → n < length bs → 0 < length (first_books n bs)
+  first_some zero bs a b = absurd (omega arith)
+  first_some (suc n) [] a b = absurd (omega arith)
+  first_some (suc n) (x ∷ xs) a b = omega arith
+
+  pub last_some : (n : ℕ) (bs : List (Book D)) → n < length bs → 0 < length (last_books n bs)
+  last_some zero bs b = b
+  last_some (suc n) [] b = absurd (omega arith)
+  last_some (suc n) (x ∷ xs) b = last_some n xs (omega arith)
 
   all_in : (bs : List (Book D)) → Each (λ b. in_books b.caller bs ≡ true) bs
   all_in [] = tt
@@ -96,6 +108,7 @@ module _ {M D : Type 0} where
   owner_fits m opening total owner owner' h ws j v there back f = record {
     same = f.same;
     high = f.high;
+    spent = f.spent;
     books = each_map _ _ (λ b g. (there b.caller g.0, g.1, g.2)) v.books f.books;
     order = f.order;
     known = f.known;
@@ -147,6 +160,7 @@ module _ {M D : Type 0} (lawful : M → List ℕ → Type 0) (explains : M → L
       let left_fits : Fits m opening total owner' h ws id left = record {
         same = λ _. f.same some_books;
         high = f.high;
+        spent = λ e. (let l = first_some n v.books some_left some_moved in let none : length (first_books n v.books) ≡ 0 = e in absurd (omega arith));
         books = each_both _ _ _ (λ b a g. (no b.caller a ∙ g.0, g.1, g.2)) (first_books n v.books) (apart n v.books f.order) (first_each _ n v.books f.books);
         order = first_order n v.books f.order;
         known = f.known;
@@ -162,6 +176,7 @@ module _ {M D : Type 0} (lawful : M → List ℕ → Type 0) (explains : M → L
       let right_fits : Fits m opening total owner' h ws new right = record {
         same = λ _. f.same some_books;
         high = f.high;
+        spent = λ e. (let l = last_some n v.books some_moved in let none : length (last_books n v.books) ≡ 0 = e in absurd (omega arith));
         books = each_both _ _ _ (λ b a g. (yes b.caller a, g.1, g.2)) moved (all_in moved) (last_each _ n v.books f.books);
         order = last_order n v.books f.order;
         known = f.known;
@@ -213,6 +228,7 @@ module _ {M D : Type 0} (lawful : M → List ℕ → Type 0) (explains : M → L
       let both_fits : Fits m opening total owner' h ws id both = record {
         same = λ _. f.same acting;
         high = f.high;
+        spent = λ e. (let l = merge_length caller_key w.books v.books in let none : length (merge_by caller_key w.books v.books) ≡ 0 = e in absurd (omega arith));
         books = each_merge caller_key _ w.books v.books (each_both _ _ _ (λ b a x. (yes b.caller a, x.1, x.2)) w.books (all_in w.books) g.books)
             (each_map _ _ (λ b x. (⊎_elim (λ t. yes b.caller t) (λ t. no b.caller t ∙ x.0) (bool_cases (in_books b.caller w.books)), x.1, x.2)) v.books f.books);
         order = merge_ascends caller_key w.books v.books g.order f.order (each_map _ _ (λ b x. each_map _ _ (λ c y is. ne (sym x.0 ∙ (ap r.owner (sym is) ∙ y.0))) v.books f.books) w.books g.books);
@@ -229,6 +245,7 @@ module _ {M D : Type 0} (lawful : M → List ℕ → Type 0) (explains : M → L
       let spent_fits : Fits m opening total owner' h ws other spent = record {
         same = λ l. absurd (omega arith);
         high = r.small;
+        spent = λ e. refl;
         books = tt;
         order = tt;
         known = omega arith;

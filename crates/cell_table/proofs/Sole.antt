@@ -1,5 +1,5 @@
 -- A pass with every caller number finds each lock word free that is not its own, at a version of its own books.
-use Rattle.std.proofs.Common.{◌≡◌, ℕ, zero, suc, ◌*◌, ◌/◌, ◌%◌, ◌<◌, ◌≤◌, Bool, true, false, cond, eqb, List, [], ◌∷◌, length, get_or, inl, inr, ⊎_elim, sym, refl, ap, ◌∙◌, subst, arith, eq-eqb, ne_eqb, IsTrue}
+use Rattle.std.proofs.Common.{◌≡◌, ℕ, zero, suc, ◌+◌, ◌*◌, ◌/◌, ◌%◌, ◌^◌, ◌<◌, ◌≤◌, Bool, true, false, cond, eqb, List, [], ◌∷◌, length, get_or, inl, inr, ⊎_elim, sym, refl, ap, ◌∙◌, subst, arith, eq-eqb, ne_eqb, IsTrue}
 use mathlib.Core.Logic.{dite}
 use native.Mathlib.Decide.{ℕ_discrete}
 use Rattle.cell_table.specs.Sorted.{Each, Among}
@@ -24,7 +24,7 @@ use Rattle.cell_table.proofs.Laws.{cells_value}
 use Rattle.cell_table.proofs.ValueStore.{observes_stands}
 use Rattle.cell_table.proofs.Replay.{up_to_all, tells_cells, tells_versions}
 use Rattle.cell_table.proofs.Views.{in_callers}
-use Rattle.cell_table.proofs.Closing.{all_books, books_few}
+use Rattle.cell_table.proofs.Callers.{all_books, books_few}
 use Rattle.cell_table.proofs.Passes.{added_validation, looked_trail, looked_books, looked_still, missed_still, grows_looked, grows_taken, grows_missed, pass_by}
 
 module _ {D : Type 0} where
@@ -88,6 +88,11 @@ module _ {M D : Type 0} (lawful : M → List ℕ → Type 0) (explains : M → L
         observed = λ c x q l o. ap (λ (z : List (ℕ × Record D)). get_or (replay p.view.opening (up_to q z)) c 0) same ∙ (ap (λ (z : List ℕ). get_or z c 0) (tells_cells h n p.view.books k.order books known p.view.opening q)
             ∙ ((cells_value p.view.opening h c l q).0 ∙ (observes_stands p.view.opening h n p.view k.values k.validations c x q o).0));
       }
+
+  -- what a load of the clock tells a view with every caller number, as its pass has it
+  pub draws_told : (p q : PassState M D) (r callers : ℕ) → p ≡ q → IsPass lawful explains p → q.view.total ≡ callers → (length p.view.books ≡ p.view.total → r + p.view.draws ≡ p.view.total * 2 ^ 48) → IsSole q → r + q.view.draws ≡ callers * 2 ^ 48
+  draws_told p q r callers e f total told = subst (λ (z : PassState M D). z.view.total ≡ callers → IsSole z → r + z.view.draws ≡ callers * 2 ^ 48) e
+      (λ t sole. let a = ap length f.books in let b = books_length p.books in subst (λ (n : ℕ). r + p.view.draws ≡ n * 2 ^ 48) t (told (omega arith))) total
 
   abbrev IsLast : PassState M D → ℕ → ℕ → Type 0
   IsLast p c r = IsSole p → has c (cells_of p.view.held) ≡ false → (r % 2 ≡ 0) × (r ≤ 2 * p.seen) × (r ≡ 2 * newest_in (writers_in p.books) c)

@@ -16,7 +16,7 @@ use Rattle.cell_table.specs.IsPass.{IsPass, IsPlanned}
 use Rattle.cell_table.specs.declared.entry.Ledger.{Ledger}
 use Rattle.cell_table.specs.Seats.{Tied, reserved_in}
 use Rattle.cell_table.proofs.Sorted.{each_map, each_merge, among_left, among_right}
-use Rattle.cell_table.proofs.SeatMove.{first_each, last_each, first_order, last_order}
+use Rattle.cell_table.proofs.SeatMove.{first_each, last_each, first_order, last_order, first_some, last_some}
 use Rattle.cell_table.proofs.Ledgers.{writer_take, writer_drop, writer_merge, merge_length}
 use Rattle.cell_table.proofs.Passes.{readers_on, grows_clocked}
 use Rattle.cell_table.proofs.Attempts.{no_plan}
@@ -34,17 +34,6 @@ module _ {A : Type 0} where
 
 pub share_fits : (n total d : ℕ) → n ≤ total → 0 < total → n * (d / total) ≤ d
 share_fits n total d l pos = let a : n * (d / total) ≤ total * (d / total) = mul-le-mul_right (d / total) l in let b = div-add-mod' d total in let c : total * (d / total) ≡ d / total * total = mul_comm total (d / total) in omega arith
-
-module _ {D : Type 0} where
-  first_some : (n : ℕ) (bs : List (Book D)) → 0 < n → n < length bs → 0 < length (first_books n bs)
-  first_some zero bs a b = absurd (omega arith)
-  first_some (suc n) [] a b = absurd (omega arith)
-  first_some (suc n) (x ∷ xs) a b = omega arith
-
-  last_some : (n : ℕ) (bs : List (Book D)) → n < length bs → 0 < length (last_books n bs)
-  last_some zero bs b = b
-  last_some (suc n) [] b = absurd (omega arith)
-  last_some (suc n) (x ∷ xs) b = last_some n xs (omega arith)
 
 module _ {M D : Type 0} where
   pub grows_kept : (n d : ℕ) (v : View M D) → Grows v (kept_part n d v)

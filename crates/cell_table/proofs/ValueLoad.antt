@@ -55,6 +55,7 @@ module _ {M D : Type 0} (lawful : M → List ℕ → Type 0) (explains : M → L
       let g : Fits m opening total r.owner r.history s.words id w = record {
         same = f.same;
         high = f.high;
+        spent = f.spent;
         books = f.books;
         order = f.order;
         known = f.known;

@@ -123,6 +123,7 @@ module _ {M D : Type 0} (lawful : M → List ℕ → Type 0) (explains : M → L
       let own_fits : Fits m opening total r.owner h' ws' id w = record {
         same = λ _. g.same acting;
         high = g.high;
+        spent = λ e. (let l = enter_some u plan v.books acting in let none : length (enter u plan v.books) ≡ 0 = e in absurd (omega arith));
         books = entered id total r.owner h h' n (clock_of ws') u v.total plan v.books g.order (ap (records_by k h') tick ∙ records_more k h u plan pos (no_record k) f.4 n below)
             (λ j ne. ap (records_by j h') tick ∙ records_aside j h u d' (no_record j) (λ t e. let same : j ≡ k = cc in ne same) n) g.books;
         order = enter_ascends u plan v.books g.order;

@@ -93,6 +93,8 @@ IsAscending bs = IsAscendingBy (λ b. b.caller) bs
 pub record Fits {M D : Type 0} (m : M) (opening : List ℕ) (total : ℕ) (owner : ℕ → ℕ) (h : ℕ → Outcome D) (ws : List ℕ) (id : ℕ) (v : View M D) : Type 0 where
   pub same : 0 < length v.books → (v.meaning ≡ Some m) × (v.opening ≡ opening) × (v.total ≡ total)
   pub high : total ≤ v.total
+  -- a view without a caller has no draw
+  pub spent : length v.books ≡ 0 → v.draws ≡ 0
   pub books : Each (λ b. (owner b.caller ≡ id) × (b.caller < total) × (b.records ≡ records_by b.caller h (clock_of ws))) v.books
   pub order : IsAscending v.books
   pub known : v.known ≤ clock_of ws
@@ -127,7 +129,8 @@ module _ {M D : Type 0} (lawful : M → List ℕ → Type 0) (explains : M → L
     pub records : (w k : ℕ) (r : Record D) → history w ≡ decided k r → IsRecord m opening history w r
     pub callers : (w k : ℕ) (r : Record D) → history w ≡ decided k r → k < total
     pub views : (j : ℕ) (v : View M D) → get_elem? s.views j ≡ some v → Fits m opening total owner history s.words j v
-    pub budget : draws_left s.views + clock_of s.words ≤ total * 2 ^ 48
+    -- each draw is left in a view, or was made
+    pub budget : draws_left s.views + clock_of s.words ≡ total * 2 ^ 48
 
 abbrev pub new_books : {D : Type 0} → ℕ → ℕ → List (Book D)
 new_books k zero = []

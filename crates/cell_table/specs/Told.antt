@@ -1,5 +1,5 @@
 -- What each step tells the seat that makes it: its view afterwards, and what the word found says.
-use Rattle.std.specs.Prelude.{◌≡◌, ◌≢◌, ℕ, ◌+◌, ◌-◌, ◌/◌, ◌^◌, ◌<◌, ◌≤◌, false, List}
+use Rattle.std.specs.Prelude.{◌≡◌, ◌≢◌, ℕ, ◌+◌, ◌-◌, ◌*◌, ◌/◌, ◌^◌, ◌<◌, ◌≤◌, false, List, length}
 use Rattle.atomic_table.specs.Table.{Me, Step}
 use Rattle.cell_table.specs.Sorted.{Each}
 use Rattle.cell_table.specs.Cells.{has}
@@ -15,7 +15,7 @@ module _ {M D : Type 0} (lawful : M → List ℕ → Type 0) (explains : M → L
   Seat = Me (Unit {0}) (View M D)
 
   abbrev pub clock_told : Step (Unit {0}) → Seat → ℕ → Seat → Type 0
-  clock_told st me r me' = (me'.0 ≡ clocked me.0 r) × (me.0.known ≤ r) × (me.0.stage ≡ Open → Each (λ t. t.1 ≤ r) me.0.held) × LegalNow lawful explains me'.0 × (me'.1 ≡ me.1)
+  clock_told st me r me' = (me'.0 ≡ clocked me.0 r) × (me.0.known ≤ r) × (me.0.stage ≡ Open → Each (λ t. t.1 ≤ r) me.0.held) × (length me.0.books ≡ me.0.total → r + me.0.draws ≡ me.0.total * 2 ^ 48) × LegalNow lawful explains me'.0 × (me'.1 ≡ me.1)
 
   abbrev pub lock_told : Step (Unit {0}) → Seat → ℕ → Seat → Type 0
   lock_told st me r me' = (me'.0 ≡ looked me.0 ((st.word - 1) / 2) r) × IsWord me.0 ((st.word - 1) / 2) r × LegalNow lawful explains me'.0 × (me'.1 ≡ me.1)

@@ -61,6 +61,9 @@ impl<M: Meaning> CellTable<M> {
         ensures grows { Grows pass.old.view pass.new.view }
         ensures later { (pass.old.seen ≤ result) × (pass.old.view.known ≤ result) }
         ensures held_stand { pass.old.view.stage ≡ Open → HeldStand pass.old.view pass.new.view result }
+
+        // A pass with every caller number finds the number of the draws that it has made.
+        ensures sole { IsSole pass.old → result + pass.old.view.draws ≡ self.now.callers * 2 ^ 48 }
     {
         self.words.shared.load::<ClockLoad>(&mut pass.seat, 0)
     }

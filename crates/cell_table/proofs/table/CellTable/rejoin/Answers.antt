@@ -24,7 +24,7 @@ load-requires g c = (
 )
 
 pub returns-clause-seat : goal.returns-clause-seat
-returns-clause-seat g c = (c.load.ensures.0 ∙ c.join_seat.ensures.0, c.load.ensures.2.4 ∙ (ap (λ (z : Me _ (View g.row.M.Denot g.row.M-Done.Denot)). z.1) c.join_seat.ensures.2 ∙ c.requires.empty.0))
+returns-clause-seat g c = (c.load.ensures.0 ∙ c.join_seat.ensures.0, c.load.ensures.2.5 ∙ (ap (λ (z : Me _ (View g.row.M.Denot g.row.M-Done.Denot)). z.1) c.join_seat.ensures.2 ∙ c.requires.empty.0))
 
 pub returns-clause-view : goal.returns-clause-view
 returns-clause-view g c = (rejoined c.args.seat.now.me.0 c.args.other.me.0 c.join_seat.new.seat.me.0 c.load.new.seat.me.0 c.load.result (ap (λ (z : Me _ (View g.row.M.Denot g.row.M-Done.Denot)). z.0) c.join_seat.ensures.2) c.load.ensures.2.0 c.load.ensures.2.1).0
