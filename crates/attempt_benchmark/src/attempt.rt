@@ -106,9 +106,17 @@ fn publish(mut tx: Tx<'_, Untold>) -> Result<Pass<Untold>, Refused>
     }
 }
 
-/// Reads each cell of a new table of so many cells, writes 1 more than it has, and commits all in one attempt. It answers
-/// what the last cell has at the end.
-pub fn commit_all(alloc: Global, cells: u32) -> Result<u64, Refused>
+/// What came of a committed attempt.
+#[derive(Clone, Copy)]
+pub struct Committed {
+    /// The place at which it read.
+    pub version: u64,
+    /// What the last cell has at the end.
+    pub last: u64,
+}
+
+/// Reads each cell of a new table of so many cells, writes 1 more than it has, and commits all in one attempt.
+pub fn commit_all(alloc: Global, cells: u32) -> Result<Committed, Refused>
     requires cells { (0 < cells) × (cells ≤ 2 ^ 24) }
 {
     let values = zeros(alloc, cells)?;
@@ -121,7 +129,9 @@ pub fn commit_all(alloc: Global, cells: u32) -> Result<u64, Refused>
         let _ = tx.abort();
         return Err(refused);
     }
+    let version = tx.version();
     let pass = commit(tx)?;
     let contents = table.close(pass);
-    Ok(contents.value(cells - 1))
+    let last = contents.value(cells - 1);
+    Ok(Committed { version, last })
 }

@@ -32,8 +32,9 @@ fn cells_asked_for<R: Env + AllocGlobal>(rt: &R) -> u32
 fn main(rt: HostRuntime) -> ExitCode {
     let cells = cells_asked_for(&rt);
     match attempt::commit_all(rt.alloc(), cells) {
-        Ok(last) => {
-            let _ = println!(rt; "cells {cells}\nlast {last}");
+        Ok(done) => {
+            let (version, last) = (done.version, done.last);
+            let _ = println!(rt; "cells {cells}\nversion {version}\nlast {last}");
             ExitCode::SUCCESS
         }
         Err(_) => ExitCode::FAILURE,
