@@ -1,10 +1,19 @@
 // What a caller may rely on of files and of sinks.
-ghost use Rattle.std.specs.Prelude.{◌≡◌, ℕ, ◌^◌, ◌<◌, ◌≤◌, List, length, take, Option, IfOk, OnErr};
+ghost use Rattle.std.specs.Prelude.{◌≡◌, ℕ, ◌^◌, ◌<◌, ◌≤◌, List, length, take, Option, IfOk, OnErr, IsErrOf};
 ghost use Rattle.byte_ends.specs.Told.{Rose, IfTold, IsPieceAt, Grows};
 
-/// The fault of a call on an object that was handed in. The object's count of faults says how often.
+/// The fault of a call on a sink. The sink's count of faults says how often.
 #[derive(Clone, Copy, Debug, PartialEq, Eq)]
 pub struct Failed;
+
+/// Why a read gave no bytes.
+#[derive(Clone, Copy, Debug, PartialEq, Eq)]
+pub enum ReadFault {
+    /// The call on the file failed. The object's count of faults for its name says how often.
+    Failed,
+    /// Memory was wanted, as for the file's name. This says nothing of the file.
+    Memory,
+}
 
 /// Files by name, which are read a piece at a time.
 pub trait Files {
@@ -18,14 +27,14 @@ pub trait Files {
     /// `into`, and answers how many. It answers 0 for a non-empty `into` only at or past the end.
     ///
     /// `Failed`: the count for this name rose. A file that isn't there can't be read.
-    fn read(&mut self, name: &str, at: u64, into: &mut [u8]) -> Result<usize, Failed>
+    fn read(&mut self, name: &str, at: u64, into: &mut [u8]) -> Result<usize, ReadFault>
         requires near { at ≤ 2 ^ 30 }
         ensures bound { IfOk result (λ n. n ≤ length into.new) }
         ensures bytes { IfOk result (λ n. IfTold (content self.old name.now) (λ file. IsPieceAt file at n into.new)) }
         ensures end { IfOk result (λ n. IfTold (content self.old name.now) (λ file. n ≡ 0 → 0 < length into.new → length file ≤ at)) }
         ensures content { (file : List ℕ) → content self.new file ≡ content self.old file }
         ensures counts { (file : List ℕ) → faults self.old file ≤ faults self.new file }
-        ensures cause { OnErr result (Rose (faults self.old name.now) (faults self.new name.now)) };
+        ensures cause { IsErrOf result ReadFault.Failed → Rose (faults self.old name.now) (faults self.new name.now) };
 }
 
 /// A place that bytes are appended to.

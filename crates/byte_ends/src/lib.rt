@@ -12,7 +12,7 @@ mod real;
 mod tests;
 mod whole;
 
-pub use ends::{Failed, Files, Sink};
+pub use ends::{Failed, Files, ReadFault, Sink};
 pub use memory::{MemoryFiles, MemorySink};
 pub use real::{RealFiles, RealSink};
 pub use whole::{ReadEnd, read_all, write_all};

@@ -1,9 +1,9 @@
 // Files and a sink in memory, whose calls fail where they are told to.
-ghost use Rattle.std.specs.Prelude.{◌≡◌, ◌⊎◌, ◌↔◌, ℕ, ◌+◌, ◌-◌, ◌^◌, ◌<◌, ◌≤◌, List, [], ◌∷◌, ◌++◌, length, take, Option, Some, None, IfOk, OnOk, OnErr, IsErr, MatchOption, vec_len, vec_capacity, Contains, min, is_ok, if◌then◌else◌};
+ghost use Rattle.std.specs.Prelude.{◌≡◌, ◌⊎◌, ◌↔◌, ℕ, ◌+◌, ◌-◌, ◌^◌, ◌<◌, ◌≤◌, List, [], ◌∷◌, ◌++◌, length, take, Option, Some, None, IfOk, OnOk, OnErr, IfErr, IsErr, IsErrOf, MatchOption, vec_len, vec_capacity, Contains, min, is_ok, if◌then◌else◌};
 ghost use Rattle.byte_ends.specs.Told.{one_more, Rose, IfTold, IsPieceAt, Grows};
 ghost use Rattle.byte_ends.specs.InMemory.{Entry, entries_of, bytes_of, NamesDiffer, FilesInMemory, SinkInMemory};
 
-use crate::{Failed, Files, Sink};
+use crate::{Failed, Files, ReadFault, Sink};
 use std::alloc::{AllocError, Global};
 use std::marker::Model;
 
@@ -60,12 +60,13 @@ impl MemoryFiles {
         }
     }
 
-    fn fail(&mut self) -> Failed
+    fn fail(&mut self) -> ReadFault
+        ensures fault { result ≡ ReadFault.Failed }
         ensures counted { self.new ≡ record self.old { faults = one_more self.old.faults } }
         ensures counts { self.old.faults ≤ self.new.faults }
     {
         self.faults = self.faults.saturating_add(1);
-        Failed
+        ReadFault::Failed
     }
 }
 
@@ -78,17 +79,18 @@ impl Files for MemoryFiles {
     ///
     /// `Failed` comes exactly where this call was to fail or there is no file of this name. It takes
     /// no memory.
-    fn read(&mut self, name: &str, at: u64, into: &mut [u8]) -> Result<usize, Failed>
+    fn read(&mut self, name: &str, at: u64, into: &mut [u8]) -> Result<usize, ReadFault>
         requires near { at ≤ 2 ^ 30 }
         ensures bound { IfOk result (λ n. n ≤ length into.new) }
         ensures bytes { IfOk result (λ n. IfTold (bytes_of self.old.entries name.now) (λ file. IsPieceAt file at n into.new)) }
         ensures end { IfOk result (λ n. IfTold (bytes_of self.old.entries name.now) (λ file. n ≡ 0 → 0 < length into.new → length file ≤ at)) }
         ensures content { (file : List ℕ) → bytes_of self.new.entries file ≡ bytes_of self.old.entries file }
         ensures counts { (file : List ℕ) → self.old.faults ≤ self.new.faults }
-        ensures cause { OnErr result (Rose self.old.faults self.new.faults) }
+        ensures cause { IsErrOf result ReadFault.Failed → Rose self.old.faults self.new.faults }
 
         ensures exact { IfOk result (λ n. IfTold (bytes_of self.old.entries name.now) (λ file. n ≡ min (length into.new) (length file - at))) }
         ensures failed_exactly { IsErr result ↔ (Contains self.old.failing (one_more self.old.calls) ⊎ (bytes_of self.old.entries name.now ≡ None)) }
+        ensures no_memory { IfErr result (λ fault. fault ≡ ReadFault.Failed) }
         ensures counted { self.new ≡ record self.old { calls = one_more self.old.calls; faults = (if is_ok result then self.old.faults else one_more self.old.faults) } }
     {
         self.calls = self.calls.saturating_add(1);

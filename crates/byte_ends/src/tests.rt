@@ -1,4 +1,6 @@
-use crate::{Failed, Files, MemoryFiles, MemorySink, ReadEnd, Sink, read_all, write_all};
+use crate::{
+    Failed, Files, MemoryFiles, MemorySink, ReadEnd, ReadFault, Sink, read_all, write_all,
+};
 use std::alloc::{AllocError, Global};
 use std::test::Fail;
 
@@ -44,8 +46,8 @@ fn files_in_memory_are_read_by_place(rt: HostRuntime) -> Result<(), Fail> {
     for (name, at, want) in [
         ("letters", 0, Ok(5)),
         ("letters", 13, Ok(3)),
-        ("letters", 0, Err(Failed)),
-        ("missing", 0, Err(Failed)),
+        ("letters", 0, Err(ReadFault::Failed)),
+        ("missing", 0, Err(ReadFault::Failed)),
         ("letters", 16, Ok(0)),
         ("letters", 99, Ok(0)),
     ] {
