@@ -1,11 +1,13 @@
 -- Each file has a right answer: that of going from record to record.
-use Rattle.std.proofs.Common.{◌≡◌, ℕ, zero, suc, ◌+◌, ◌-◌, ◌≤◌, ◌⊎◌, inl, inr, false, List, [], ◌∷◌, length, refl, arith}
+use Rattle.std.proofs.Common.{◌≡◌, ℕ, zero, suc, ◌+◌, ◌-◌, ◌≤◌, ◌⊎◌, inl, inr, false, List, [], ◌∷◌, length, Option, None, Some, refl, arith}
+use Rattle.std.specs.Prelude.{IsSome}
 use Rattle.std.proofs.lemmas.Bool.{cases_lt, cases_eq}
 use Rattle.capture_terms.specs.Numbers.{number16, number32}
-use Rattle.capture_terms.specs.Capture.{HasMagic, HasVersion, IsHeader, IsAcceptedLink, link_of, captured_length, frame_at, IsRecord, AreRecords, IsLongRecord, IsTail, HasFrames, Answer, captured, bad_header, other_version, other_link, long_record, too_many_frames, IsAnswer}
+use Rattle.capture_terms.specs.Capture.{HasMagic, HasVersion, IsHeader, IsAcceptedLink, link_numbered, link_of, captured_length, frame_at, IsRecord, AreRecords, IsLongRecord, IsTail, HasFrames, Answer, captured, bad_header, other_version, other_link, long_record, too_many_frames, IsAnswer}
 use Rattle.capture_terms.specs.declared.capture.Endianness.{Endianness}
 use Rattle.capture_terms.specs.declared.capture.Endianness.TheVariants.{Little, Big}
 use Rattle.capture_terms.specs.declared.capture.Frame.{Frame}
+use Rattle.capture_terms.specs.declared.capture.Link.{Link}
 
 -- what stands at a place where a record may begin
 data Next (order : Endianness) (bytes : List ℕ) (at : ℕ) : Type 0 where
@@ -66,13 +68,11 @@ answer_from bytes order header accepted count is walked = by_stop walked.stop
     by_stop (stop_many none next more) = (too_many_frames, record { order = order; frames = walked.frames; end = walked.end; next = next; before = before; many = omega (arith, walked.few); more = more })
 
 cases_link : (link : ℕ) → IsAcceptedLink link ⊎ ¬ IsAcceptedLink link
-cases_link link = elim (cases_eq link 1) [
-  | inl one ↦ inl (inl one)
-  | inr not_one ↦ elim (cases_eq link 101) [
-    | inl raw ↦ inl (inr raw)
-    | inr not_raw ↦ inr (λ either. elim either [ inl one ↦ not_one one | inr raw ↦ not_raw raw ])
-  ]
-]
+cases_link link = by_case (link_numbered link)
+  where
+    by_case : (found : Option Link) → IsSome found ⊎ ¬ IsSome found
+    by_case None = inr (λ some. absurd (cc))
+    by_case (Some link) = inl refl
 
 cases_version : (order : Endianness) (bytes : List ℕ) → HasVersion order bytes ⊎ ¬ HasVersion order bytes
 cases_version order bytes = elim (cases_eq (number16 order bytes 4) 2) [

@@ -9,6 +9,7 @@ use Rattle.std.proofs.lemmas.List.Elements.{All-push, Contains-append_left, Cont
 use Rattle.std.proofs.lemmas.List.Quantifiers.{all_pairs_push, position-Some}
 use Rattle.std.proofs.lemmas.List.Sums.{position_or_len_is}
 use Rattle.std.proofs.lemmas.Option.{slice_get-get_or}
+use Rattle.capture_terms.specs.Capture.{contents_of}
 use Rattle.capture_terms.specs.declared.capture.Capture.{Capture}
 use Rattle.capture_terms.specs.declared.datagram.Class.{Class}
 use Rattle.capture_terms.specs.declared.datagram.Class.TheVariants as class
@@ -177,6 +178,6 @@ kinds_grouped bytes kinds sound = record {
 
 pub plan_grouped : (bytes : List ℕ) (capture : Capture) (plan : Plan) → IsClassifiable bytes capture → IsPlan bytes capture plan → AreGrouped plan.tasks.items plan.groups.items
 plan_grouped bytes capture plan fine is =
-    let kinds : List Kind = kinds_of bytes capture in
+    let kinds : List Kind = kinds_of bytes (contents_of capture) in
     subst (λ (tasks : List Task). AreGrouped tasks plan.groups.items) (sym is.tasks)
     (subst (λ (groups : List Group). AreGrouped (tasks_of kinds) groups) (sym is.groups) (kinds_grouped bytes kinds (tasks_fine (length bytes) kinds (plan_kinds bytes capture fine))))

@@ -12,6 +12,7 @@ use Rattle.std.proofs.lemmas.List.Kept.{AllPairs-filter}
 use Rattle.std.proofs.lemmas.List.Sums.{fails_before_first}
 use Rattle.std.proofs.lemmas.List.FromFn.{length-map-range_with_len, get_or-map-range_with_len}
 use Rattle.std.proofs.lemmas.Grind.{same_number_lists}
+use Rattle.capture_terms.specs.Capture.{contents_of, link_numbered}
 use Rattle.capture_terms.specs.declared.capture.Capture.{Capture}
 use Rattle.capture_terms.specs.declared.datagram.Class.{Class}
 use Rattle.capture_terms.specs.declared.datagram.Class.TheVariants as class
@@ -182,8 +183,8 @@ module _ (bytes : List ℕ) (groups : List Group) (tasks : List Task) (sound : A
     | inr group ↦ subst (IsSound bytes) (sym group.is) (group_sound group.group group.complete)
   ]
 
-pub plan_kinds : (bytes : List ℕ) (capture : Capture) → IsClassifiable bytes capture → All (KindSound (length bytes)) (kinds_of bytes capture)
-plan_kinds bytes capture fine = All-map (KindSound (length bytes)) (kind_of capture.link bytes) capture.frames.items (λ k d lt. kind_sound capture.link bytes (get_or capture.frames.items k d) (fine.within k d lt))
+pub plan_kinds : (bytes : List ℕ) (capture : Capture) → IsClassifiable bytes capture → All (KindSound (length bytes)) (kinds_of bytes (contents_of capture))
+plan_kinds bytes capture fine = All-map (KindSound (length bytes)) (kind_of (link_numbered capture.link) bytes) capture.frames.items (λ k d lt. kind_sound (link_numbered capture.link) bytes (get_or capture.frames.items k d) (fine.within k d lt))
 
 pub tasks_fine : (end : ℕ) (kinds : List Kind) → All (KindSound end) kinds → All (TaskSound end) (tasks_of kinds)
 unfolding tasks_of groups_of kept_of
@@ -195,7 +196,7 @@ tasks_together kinds = together_all (groups_of kinds) 0 [] kinds
 
 pub datagram_is_sound : (bytes : List ℕ) (capture : Capture) (plan : Plan) (numbers : List ℕ) (datagram : List Task) → IsClassifiable bytes capture → IsPlan bytes capture plan → IsDatagramAt plan.tasks.items numbers datagram → IsSound bytes datagram
 datagram_is_sound bytes capture plan numbers datagram fine is at =
-    let kinds : List Kind = kinds_of bytes capture in
+    let kinds : List Kind = kinds_of bytes (contents_of capture) in
     tasks_datagram bytes (groups_of kinds) plan.tasks.items
     (subst (All (TaskSound (length bytes))) (sym is.tasks) (tasks_fine (length bytes) kinds (plan_kinds bytes capture fine)))
     (subst (AllPairs (Together (groups_of kinds))) (sym is.tasks) (tasks_together kinds))
@@ -204,7 +205,7 @@ datagram_is_sound bytes capture plan numbers datagram fine is at =
 -- Single tasks.
 
 pub tasks_inside : (bytes : List ℕ) (capture : Capture) (plan : Plan) → IsClassifiable bytes capture → IsPlan bytes capture plan → All (TaskSound (length bytes)) plan.tasks.items
-tasks_inside bytes capture plan fine is = subst (All (TaskSound (length bytes))) (sym is.tasks) (tasks_fine (length bytes) (kinds_of bytes capture) (plan_kinds bytes capture fine))
+tasks_inside bytes capture plan fine is = subst (All (TaskSound (length bytes))) (sym is.tasks) (tasks_fine (length bytes) (kinds_of bytes (contents_of capture)) (plan_kinds bytes capture fine))
 
 pub whole_payload : (bytes : List ℕ) (t : Task) → TaskSound (length bytes) t → t.group ≡ None → payload_of bytes (t ∷ []) ≡ take t.length (drop t.from bytes)
 whole_payload bytes t fine none =
@@ -249,7 +250,7 @@ module _ (groups : List Group) where
 
 pub plan_ascends : (bytes : List ℕ) (capture : Capture) (plan : Plan) → IsPlan bytes capture plan → AllPairs (λ (s t : Task). s.frame < t.frame) plan.tasks.items
 unfolding tasks_of
-plan_ascends bytes capture plan is = subst (AllPairs (λ (s t : Task). s.frame < t.frame)) (sym is.tasks) (ascend (kinds_of bytes capture))
+plan_ascends bytes capture plan is = subst (AllPairs (λ (s t : Task). s.frame < t.frame)) (sym is.tasks) (ascend (kinds_of bytes (contents_of capture)))
   where
     ascend : (kinds : List Kind) → AllPairs (λ (s t : Task). s.frame < t.frame) (tasks_from (groups_of kinds) 0 (classes_of kinds) kinds)
     ascend kinds = frames_ascend (groups_of kinds) 0 (classes_of kinds) kinds

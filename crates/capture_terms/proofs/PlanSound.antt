@@ -8,6 +8,7 @@ use Rattle.capture_terms.specs.declared.datagram.Kind.TheVariants.{Bad, Cut, Who
 use Rattle.capture_terms.specs.declared.datagram.Piece.{Piece}
 use Rattle.capture_terms.specs.declared.plan.Task.{Task}
 use Rattle.capture_terms.specs.Capture.{IsWithin, frame_bytes}
+use Rattle.capture_terms.specs.declared.capture.Link.{Link}
 use Rattle.capture_terms.specs.Classes.{has_bad_header, has_bad_data, is_cut, is_fragment, piece_of, datagram_kind, kind_of, kind_from, datagram_start, header_length, total_length, data_length, data_start}
 use Rattle.capture_terms.specs.Kept.{end_of}
 use Rattle.capture_terms.specs.Datagram.{end_of_task}
@@ -60,9 +61,10 @@ from_sound : (at : ℕ) (frame : List ℕ) (start : Option ℕ) (end : ℕ) → 
 from_sound at frame None end within = tt
 from_sound at frame (Some start) end within = datagram_sound (at + start) (drop start frame) end (λ long. let left : length (drop start frame) ≡ length frame - start = length-drop start frame in omega arith)
 
-pub kind_sound : (link : ℕ) (bytes : List ℕ) (frame : Frame) → IsWithin bytes frame → KindSound (length bytes) (kind_of link bytes frame)
+pub kind_sound : (link : Option Link) (bytes : List ℕ) (frame : Frame) → IsWithin bytes frame → KindSound (length bytes) (kind_of link bytes frame)
 unfolding kind_of
-kind_sound link bytes frame within =
+kind_sound None bytes frame within = tt
+kind_sound (Some link) bytes frame within =
     let taken : length (frame_bytes bytes frame) ≤ frame.length = omega (arith, length-take frame.length (drop frame.at bytes)) in
     from_sound frame.at (frame_bytes bytes frame) (datagram_start link (frame_bytes bytes frame)) (length bytes) (omega arith)
 

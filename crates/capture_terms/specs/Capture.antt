@@ -1,11 +1,13 @@
 -- Captures in the pcap file format, version 2.4: a file header of 24 bytes, and packet records one
 -- behind the other. Ours alone are the accepted link types, the limits of 262,144, and what is done
 -- with a file that ends within a record.
-use Rattle.std.specs.Prelude.{◌≡◌, ℕ, ◌+◌, ◌%◌, ◌<◌, ◌≤◌, ◌⊎◌, Bool, false, List, [], ◌∷◌, length, take, drop}
+use Rattle.std.specs.Prelude.{◌≡◌, ℕ, ◌+◌, ◌%◌, ◌<◌, ◌≤◌, ◌⊎◌, ◌==◌, Bool, false, List, [], ◌∷◌, length, take, drop, Option, Some, None, IsSome, if◌then◌else◌}
 use Rattle.capture_terms.specs.Numbers.{number16, number32}
 use Rattle.capture_terms.specs.declared.capture.Endianness.{Endianness}
 use Rattle.capture_terms.specs.declared.capture.Endianness.TheVariants.{Little, Big}
 use Rattle.capture_terms.specs.declared.capture.Frame.{Frame}
+use Rattle.capture_terms.specs.declared.capture.Link.{Link}
+use Rattle.capture_terms.specs.declared.capture.Link.TheVariants.{Ethernet, Raw}
 use Rattle.capture_terms.specs.declared.capture.Capture.{Capture}
 
 -- The file header.
@@ -22,9 +24,13 @@ HasVersion order bytes = (number16 order bytes 4 ≡ 2) × (number16 order bytes
 abbrev pub link_of : Endianness → List ℕ → ℕ
 link_of order bytes = number32 order bytes 20 % 65536
 
--- Ethernet or raw IP
+-- the link whose link type has this number in the pcap file format, if it is one that is read
+abbrev pub link_numbered : ℕ → Option Link
+link_numbered number = if number == 1 then Some Ethernet else if number == 101 then Some Raw else None
+
+-- the link type is accepted where its frames are read
 abbrev pub IsAcceptedLink : ℕ → Type 0
-IsAcceptedLink link = (link ≡ 1) ⊎ (link ≡ 101)
+IsAcceptedLink number = IsSome (link_numbered number)
 
 -- the file begins with a header in this byte order and version 2.4, whatever its link type is
 pub record IsHeader (order : Endianness) (bytes : List ℕ) : Type 0 where

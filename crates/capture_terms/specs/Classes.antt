@@ -5,6 +5,8 @@ use Rattle.capture_terms.specs.Capture.{frame_bytes}
 use Rattle.capture_terms.specs.Numbers.{number16, number32}
 use Rattle.capture_terms.specs.declared.capture.Endianness.TheVariants.{Big}
 use Rattle.capture_terms.specs.declared.capture.Frame.{Frame}
+use Rattle.capture_terms.specs.declared.capture.Link.{Link}
+use Rattle.capture_terms.specs.declared.capture.Link.TheVariants.{Ethernet, Raw}
 use Rattle.capture_terms.specs.declared.datagram.Header.{Header}
 use Rattle.capture_terms.specs.declared.datagram.Piece.{Piece}
 use Rattle.capture_terms.specs.declared.datagram.Kind.{Kind}
@@ -35,9 +37,10 @@ ethernet_start frame =
 unfoldable pub raw_start : List ℕ → Option ℕ
 raw_start frame = if nat_lt 0 (length frame) && (slice_index frame 0 / 16 == 4) then Some 0 else None
 
--- the link type is 1 for Ethernet or 101 for raw IP
-abbrev pub datagram_start : ℕ → List ℕ → Option ℕ
-datagram_start link frame = if link == 1 then ethernet_start frame else raw_start frame
+-- in a frame behind this link
+abbrev pub datagram_start : Link → List ℕ → Option ℕ
+datagram_start Ethernet frame = ethernet_start frame
+datagram_start Raw frame = raw_start frame
 
 -- The fields of the internet header at the head of a datagram.
 
@@ -143,8 +146,9 @@ abbrev pub kind_from : ℕ → List ℕ → Option ℕ → Kind
 kind_from at frame None = Other
 kind_from at frame (Some start) = datagram_kind (at + start) (drop start frame)
 
--- what a frame of a file is, by the link type of the capture
-unfoldable pub kind_of : ℕ → List ℕ → Frame → Kind
-kind_of link bytes frame =
+-- what a frame of a file is, by the link of the capture, if that is one that is read
+unfoldable pub kind_of : Option Link → List ℕ → Frame → Kind
+kind_of None bytes frame = Other
+kind_of (Some link) bytes frame =
     let taken = frame_bytes bytes frame in
     kind_from frame.at taken (datagram_start link taken)

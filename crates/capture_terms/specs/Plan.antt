@@ -2,7 +2,7 @@
 -- kept fragment, and the groups of the kept fragments.
 use Rattle.std.specs.Prelude.{◌≡◌, ℕ, ◌+◌, List, [], ◌∷◌, ◌++◌, Option, Some, None, option_to_list, if◌then◌else◌, fold, map, position, length, ◌≤◌, All}
 use Rattle.std.specs.List.{list_any}
-use Rattle.capture_terms.specs.Capture.{IsAcceptedLink, IsWithin}
+use Rattle.capture_terms.specs.Capture.{Contents, contents_of, link_numbered, IsAcceptedLink, IsWithin}
 use Rattle.capture_terms.specs.Classes.{kind_of}
 use Rattle.capture_terms.specs.Kept.{group_of, is_same_group, classes_of, kept_of}
 use Rattle.capture_terms.specs.declared.capture.Capture.{Capture}
@@ -62,8 +62,8 @@ unfoldable pub tasks_of : List Kind → List Task
 tasks_of kinds = tasks_from (groups_of kinds) 0 (classes_of kinds) kinds
 
 -- what the frames of a capture are by themselves
-abbrev pub kinds_of : List ℕ → Capture → List Kind
-kinds_of bytes capture = map (kind_of capture.link bytes) capture.frames.items
+abbrev pub kinds_of : List ℕ → Contents → List Kind
+kinds_of bytes contents = map (kind_of (link_numbered contents.link) bytes) contents.frames
 
 -- a capture whose frames can be told: there are at most 262,144, and their bytes lie in the file
 pub record IsClassifiable (bytes : List ℕ) (capture : Capture) : Type 0 where
@@ -72,6 +72,6 @@ pub record IsClassifiable (bytes : List ℕ) (capture : Capture) : Type 0 where
   pub link : IsAcceptedLink capture.link
 
 pub record IsPlan (bytes : List ℕ) (capture : Capture) (plan : Plan) : Type 0 where
-  pub classes : plan.classes.items ≡ classes_of (kinds_of bytes capture)
-  pub tasks : plan.tasks.items ≡ tasks_of (kinds_of bytes capture)
-  pub groups : plan.groups.items ≡ groups_of (kinds_of bytes capture)
+  pub classes : plan.classes.items ≡ classes_of (kinds_of bytes (contents_of capture))
+  pub tasks : plan.tasks.items ≡ tasks_of (kinds_of bytes (contents_of capture))
+  pub groups : plan.groups.items ≡ groups_of (kinds_of bytes (contents_of capture))

@@ -1,3 +1,6 @@
+ghost use Rattle.std.specs.Prelude.{◌≡◌};
+ghost use Rattle.capture_terms.specs.Capture.{link_numbered};
+
 /// The order in which a file writes the bytes of its numbers.
 #[derive(Clone, Copy, Debug, PartialEq, Eq)]
 pub enum Endianness {
@@ -5,6 +8,28 @@ pub enum Endianness {
     Little,
     /// The highest byte first.
     Big,
+}
+
+/// What stands at the head of each frame of a capture. These are the link types that are read.
+#[derive(Clone, Copy, Debug, PartialEq, Eq)]
+pub enum Link {
+    /// An Ethernet header. The link type's number is 1.
+    Ethernet,
+    /// An IP packet, with nothing before it. The link type's number is 101.
+    Raw,
+}
+
+impl Link {
+    /// The link whose link type has this number, if it is one that is read.
+    pub fn numbered(number: u16) -> Option<Link>
+        ensures { result ≡ link_numbered number }
+    {
+        match number {
+            1 => Some(Link::Ethernet),
+            101 => Some(Link::Raw),
+            _ => None,
+        }
+    }
 }
 
 /// A captured frame: the fields of its record in the file, and the place of its bytes.
@@ -27,7 +52,7 @@ pub struct Frame {
 pub struct Capture {
     /// Whether the fractions of its times are nanoseconds. They are microseconds for now.
     pub nanos: bool,
-    /// The link type of its frames: 1 for Ethernet, 101 for raw IP.
+    /// The number of the link type of its frames, which `Link` reads.
     pub link: u16,
     /// The frames in the order of their records.
     pub frames: Vec<Frame>,

@@ -1,5 +1,5 @@
 /// What rules ask of a datagram's header.
-#[derive(Clone, Copy, Debug, PartialEq, Eq, Hash)]
+#[derive(Clone, Copy, Debug, PartialEq, Eq, PartialOrd, Ord)]
 pub struct Header {
     pub source: u32,
     pub destination: u32,

@@ -1,8 +1,8 @@
 //! The terms in which the inspection of captures is specified: plain types of captures, frames and
 //! datagrams, and in `specs/` what each of them means.
 //!
-//! Each function here does nothing when it runs: its contract is a law about the definitions, for the
-//! proofs of a caller.
+//! Each function here but `Link::numbered` does nothing when it runs: its contract is a law about the
+//! definitions, for the proofs of a caller.
 #![tactic(auto)]
 
 mod capture;
@@ -12,9 +12,9 @@ mod datagram_laws;
 mod group_laws;
 mod plan;
 
-pub use capture::{Capture, Endianness, Frame};
+pub use capture::{Capture, Endianness, Frame, Link};
 pub use capture_laws::{frames_lie_within, one_answer, some_answer};
 pub use datagram::{Class, Header, Kind, Piece};
 pub use datagram_laws::{datagram_law, numbers_law, packing_law, task_law};
-pub use group_laws::{first_law, group_law};
+pub use group_laws::{first_law, group_law, member_law};
 pub use plan::{Group, Plan, Task};

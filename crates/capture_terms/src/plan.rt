@@ -19,7 +19,7 @@ pub struct Task {
 }
 
 /// The fragments that share a source, a destination, a protocol and an identification.
-#[derive(Clone, Copy, Debug, PartialEq, Eq, Hash)]
+#[derive(Clone, Copy, Debug, PartialEq, Eq, PartialOrd, Ord)]
 pub struct Group {
     pub header: Header,
     pub id: u16,

@@ -2,10 +2,8 @@
 use Rattle.std.specs.Prelude.{ℕ, ◌+◌, ◌*◌, ◌^◌, List, [], ◌∷◌, map}
 use Rattle.std.specs.List.{flat_map}
 use Rattle.capture_terms.specs.Capture.{Contents}
-use Rattle.capture_terms.specs.Classes.{kind_of}
 use Rattle.capture_terms.specs.Datagram.{datagrams, payload_of}
-use Rattle.capture_terms.specs.Plan.{tasks_of}
-use Rattle.capture_terms.specs.declared.datagram.Kind.{Kind}
+use Rattle.capture_terms.specs.Plan.{kinds_of, tasks_of}
 use Rattle.capture_terms.specs.declared.plan.Task.{Task}
 use Rattle.rule_terms.specs.Match.{findings_of}
 use Rattle.rule_terms.specs.Rule.{Rule}
@@ -24,10 +22,6 @@ findings_in rules bytes (first ∷ others) =
 unfoldable pub all_findings : List Rule → List ℕ → List Task → List ℕ
 all_findings rules bytes tasks = flat_map (findings_in rules bytes) (datagrams tasks)
 
--- what the frames of a capture are by themselves
-abbrev pub kinds_in : List ℕ → Contents → List Kind
-kinds_in bytes contents = map (kind_of contents.link bytes) contents.frames
-
 -- the findings of rules in a capture
 abbrev pub findings_of_capture : List Rule → List ℕ → Contents → List ℕ
-findings_of_capture rules bytes contents = all_findings rules bytes (tasks_of (kinds_in bytes contents))
+findings_of_capture rules bytes contents = all_findings rules bytes (tasks_of (kinds_of bytes contents))

@@ -108,7 +108,7 @@ unknown_group g kept unknown = none_of_group g kept (sym (known_all g [] kept) �
 pub groups_more : (kept : List Piece) (f : Piece) → groups_among (kept ++ f ∷ []) ≡ with_group_of (groups_among kept) f
 groups_more kept f = fold_push with_group_of [] kept f
 
-none_at : {X : Type 0} (p : X → Bool) (xs : List X) → list_any p xs ≡ false → (k : ℕ) (d : X) → k < length xs → p (get_or xs k d) ≡ false
+pub none_at : {X : Type 0} (p : X → Bool) (xs : List X) → list_any p xs ≡ false → (k : ℕ) (d : X) → k < length xs → p (get_or xs k d) ≡ false
 none_at p [] none k d within = absurd (omega arith)
 none_at p (x ∷ xs) none zero d within = first_fails (p x) (list_any p xs) none
   where
@@ -121,7 +121,7 @@ none_at p (x ∷ xs) none (suc k) d within = none_at p xs (rest_fails (p x) (lis
     rest_fails true b none = absurd (cc)
     rest_fails false b none = none
 
-any_at : {X : Type 0} (p : X → Bool) (xs : List X) (k : ℕ) (d : X) → k < length xs → p (get_or xs k d) ≡ true → list_any p xs ≡ true
+pub any_at : {X : Type 0} (p : X → Bool) (xs : List X) (k : ℕ) (d : X) → k < length xs → p (get_or xs k d) ≡ true → list_any p xs ≡ true
 any_at p [] k d within passes = absurd (omega arith)
 any_at p (x ∷ xs) zero d within passes = rw passes
 any_at p (x ∷ xs) (suc k) d within passes = or_true (p x) (list_any p xs) (any_at p xs k d (omega arith) passes)
@@ -130,7 +130,7 @@ any_at p (x ∷ xs) (suc k) d within passes = or_true (p x) (list_any p xs) (any
     or_true true b is = refl
     or_true false b is = is
 
-same_swapped : (g h : Group) → is_same_group g h ≡ false → is_same_group h g ≡ false
+pub same_swapped : (g h : Group) → is_same_group g h ≡ false → is_same_group h g ≡ false
 same_swapped g h other = by_case (is_same_group h g) refl
   where
     by_case : (b : Bool) → is_same_group h g ≡ b → b ≡ false
@@ -142,50 +142,50 @@ agrees_at r q ks ls ranges pieces agrees = subst (λ (x : Ranges). Agrees x ks) 
 
 -- the group of a first fragment
 module _ (old new : Groups) (kept : List Piece) (follows : Follows old kept) (f : Piece) where
-  pub follows_new : list_any (is_same_group (group_of f)) old.known.keys ≡ false → new.known.keys ≡ old.known.keys ++ group_of f ∷ [] → (r : Ranges) → new.ranges.items ≡ old.ranges.items ++ r ∷ [] → Agrees r (f ∷ []) → (list_any (clash f) kept ≡ false) × Follows new (kept ++ f ∷ [])
+  pub follows_new : list_any (is_same_group (group_of f)) old.known ≡ false → new.known ≡ old.known ++ group_of f ∷ [] → (r : Ranges) → new.ranges.items ≡ old.ranges.items ++ r ∷ [] → Agrees r (f ∷ []) → (list_any (clash f) kept ≡ false) × Follows new (kept ++ f ∷ [])
   follows_new unknown keys r items agrees =
       let empty : of_group (group_of f) kept ≡ [] = unknown_group (group_of f) kept (ap (list_any (is_same_group (group_of f))) (sym follows.known) ∙ unknown) in
-      let longer : length new.known.keys ≡ length old.known.keys + 1 = ap length keys ∙ (simp length-append) in (
+      let longer : length new.known ≡ length old.known + 1 = ap length keys ∙ (simp length-append) in (
         any_in_group f kept ∙ ap (list_any (cannot_both_stand f)) empty,
         record {
           known = keys ∙ ap (λ (l : List Group). l ++ group_of f ∷ []) follows.known ∙ sym (groups_more kept f ∙ (rw (sym (ap (list_any (is_same_group (group_of f))) follows.known) ∙ unknown)));
           long = ap length items ∙ (simp length-append) ∙ ap (λ (n : ℕ). n + 1) follows.long ∙ sym longer;
-          ranges = λ i d e within. elim (cases_eq i (length old.known.keys)) [
+          ranges = λ i d e within. elim (cases_eq i (length old.known)) [
             | inl last ↦ at_end i d e last empty
             | inr other ↦ before i d e (omega (arith, other))
           ];
         },
       )
     where
-      before : (i : ℕ) (d : Group) (e : Ranges) → i < length old.known.keys → Agrees (get_or new.ranges.items i e) (of_group (get_or new.known.keys i d) (kept ++ f ∷ []))
+      before : (i : ℕ) (d : Group) (e : Ranges) → i < length old.known → Agrees (get_or new.ranges.items i e) (of_group (get_or new.known i d) (kept ++ f ∷ []))
       before i d e within =
           let shorter : i < length old.ranges.items = omega (arith, follows.long) in
-          let g : Group = get_or old.known.keys i d in
-          let key : get_or new.known.keys i d ≡ g = ap (λ (l : List Group). get_or l i d) keys ∙ get_or-append old.known.keys (group_of f ∷ []) d i within in
-          let other : is_same_group g (group_of f) ≡ false = same_swapped (group_of f) g (none_at (is_same_group (group_of f)) old.known.keys unknown i d within) in
-          agrees_at (get_or new.ranges.items i e) (get_or old.ranges.items i e) (of_group (get_or new.known.keys i d) (kept ++ f ∷ [])) (of_group g kept)
+          let g : Group = get_or old.known i d in
+          let key : get_or new.known i d ≡ g = ap (λ (l : List Group). get_or l i d) keys ∙ get_or-append old.known (group_of f ∷ []) d i within in
+          let other : is_same_group g (group_of f) ≡ false = same_swapped (group_of f) g (none_at (is_same_group (group_of f)) old.known unknown i d within) in
+          agrees_at (get_or new.ranges.items i e) (get_or old.ranges.items i e) (of_group (get_or new.known i d) (kept ++ f ∷ [])) (of_group g kept)
           (ap (λ (l : List Ranges). get_or l i e) items ∙ get_or-append old.ranges.items (r ∷ []) e i shorter)
           (ap (λ (h : Group). of_group h (kept ++ f ∷ [])) key ∙ group_stays g f kept other)
           (follows.ranges i d e within)
 
-      at_end : (i : ℕ) (d : Group) (e : Ranges) → i ≡ length old.known.keys → of_group (group_of f) kept ≡ [] → Agrees (get_or new.ranges.items i e) (of_group (get_or new.known.keys i d) (kept ++ f ∷ []))
+      at_end : (i : ℕ) (d : Group) (e : Ranges) → i ≡ length old.known → of_group (group_of f) kept ≡ [] → Agrees (get_or new.ranges.items i e) (of_group (get_or new.known i d) (kept ++ f ∷ []))
       at_end i d e last empty =
           let place : i ≡ length old.ranges.items = last ∙ sym follows.long in
-          let key : get_or new.known.keys i d ≡ group_of f = ap (λ (l : List Group). get_or l i d) keys ∙ ap (λ (n : ℕ). get_or (old.known.keys ++ group_of f ∷ []) n d) last ∙ get_or-append_seam old.known.keys (group_of f) [] d in
-          agrees_at (get_or new.ranges.items i e) r (of_group (get_or new.known.keys i d) (kept ++ f ∷ [])) (f ∷ [])
+          let key : get_or new.known i d ≡ group_of f = ap (λ (l : List Group). get_or l i d) keys ∙ ap (λ (n : ℕ). get_or (old.known ++ group_of f ∷ []) n d) last ∙ get_or-append_seam old.known (group_of f) [] d in
+          agrees_at (get_or new.ranges.items i e) r (of_group (get_or new.known i d) (kept ++ f ∷ [])) (f ∷ [])
           (ap (λ (l : List Ranges). get_or l i e) items ∙ ap (λ (n : ℕ). get_or (old.ranges.items ++ r ∷ []) n e) place ∙ get_or-append_seam old.ranges.items r [] e)
           (ap (λ (h : Group). of_group h (kept ++ f ∷ [])) key ∙ group_more (group_of f) f kept (same_itself (group_of f)) ∙ ap (λ (l : List Piece). l ++ f ∷ []) empty)
           agrees
 
   -- a further fragment of a group that is known
-  module _ (number : ℕ) (within : number < length old.known.keys) (d : Group) (e : Ranges) (mine : is_same_group (group_of f) (get_or old.known.keys number d) ≡ true) where
+  module _ (number : ℕ) (within : number < length old.known) (d : Group) (e : Ranges) (mine : is_same_group (group_of f) (get_or old.known number d) ≡ true) where
     pub at_number : Agrees (get_or old.ranges.items number e) (of_group (group_of f) kept)
-    at_number = subst (λ (g : Group). Agrees (get_or old.ranges.items number e) (of_group g kept)) (sym (same_group (group_of f) (get_or old.known.keys number d) mine)) (follows.ranges number d e within)
+    at_number = subst (λ (g : Group). Agrees (get_or old.ranges.items number e) (of_group g kept)) (sym (same_group (group_of f) (get_or old.known number d) mine)) (follows.ranges number d e within)
 
-    known_there : list_any (is_same_group (group_of f)) old.known.keys ≡ true
-    known_there = any_at (is_same_group (group_of f)) old.known.keys number d within mine
+    known_there : list_any (is_same_group (group_of f)) old.known ≡ true
+    known_there = any_at (is_same_group (group_of f)) old.known number d within mine
 
-    pub follows_kept : new.known.keys ≡ old.known.keys → ((i : ℕ) → i < length old.known.keys → (i ≡ number → ⊥) → is_same_group (get_or old.known.keys i d) (group_of f) ≡ false) → (r : Ranges) → new.ranges.items ≡ set old.ranges.items number r → Agrees r (of_group (group_of f) kept ++ f ∷ []) → Follows new (kept ++ f ∷ [])
+    pub follows_kept : new.known ≡ old.known → ((i : ℕ) → i < length old.known → (i ≡ number → ⊥) → is_same_group (get_or old.known i d) (group_of f) ≡ false) → (r : Ranges) → new.ranges.items ≡ set old.ranges.items number r → Agrees r (of_group (group_of f) kept ++ f ∷ []) → Follows new (kept ++ f ∷ [])
     follows_kept keys apart r items agrees = record {
       known = keys ∙ follows.known ∙ sym (groups_more kept f ∙ (rw (sym (ap (list_any (is_same_group (group_of f))) follows.known) ∙ known_there)));
       long = ap length items ∙ length-set old.ranges.items number r ∙ follows.long ∙ sym (ap length keys);
@@ -195,29 +195,29 @@ module _ (old new : Groups) (kept : List Piece) (follows : Follows old kept) (f 
       ];
     }
       where
-        here : (i : ℕ) (g : Group) (q : Ranges) → i ≡ number → Agrees (get_or new.ranges.items i q) (of_group (get_or new.known.keys i g) (kept ++ f ∷ []))
+        here : (i : ℕ) (g : Group) (q : Ranges) → i ≡ number → Agrees (get_or new.ranges.items i q) (of_group (get_or new.known i g) (kept ++ f ∷ []))
         here i g q is =
             let inside : number < length old.ranges.items = omega (arith, follows.long) in
-            let key : get_or new.known.keys i g ≡ group_of f = ap (λ (l : List Group). get_or l i g) keys ∙ ap (λ (n : ℕ). get_or old.known.keys n g) is ∙ get_or_default old.known.keys number g d within ∙ sym (same_group (group_of f) (get_or old.known.keys number d) mine) in
-            agrees_at (get_or new.ranges.items i q) r (of_group (get_or new.known.keys i g) (kept ++ f ∷ [])) (of_group (group_of f) kept ++ f ∷ [])
+            let key : get_or new.known i g ≡ group_of f = ap (λ (l : List Group). get_or l i g) keys ∙ ap (λ (n : ℕ). get_or old.known n g) is ∙ get_or_default old.known number g d within ∙ sym (same_group (group_of f) (get_or old.known number d) mine) in
+            agrees_at (get_or new.ranges.items i q) r (of_group (get_or new.known i g) (kept ++ f ∷ [])) (of_group (group_of f) kept ++ f ∷ [])
             (ap (λ (l : List Ranges). get_or l i q) items ∙ ap (λ (n : ℕ). get_or (set old.ranges.items number r) n q) is ∙ get_or-set_same old.ranges.items number r q inside)
             (ap (λ (h : Group). of_group h (kept ++ f ∷ [])) key ∙ group_more (group_of f) f kept (same_itself (group_of f)))
             agrees
 
-        there : (i : ℕ) (g : Group) (q : Ranges) → i < length old.known.keys → (i ≡ number → ⊥) → Agrees (get_or new.ranges.items i q) (of_group (get_or new.known.keys i g) (kept ++ f ∷ []))
+        there : (i : ℕ) (g : Group) (q : Ranges) → i < length old.known → (i ≡ number → ⊥) → Agrees (get_or new.ranges.items i q) (of_group (get_or new.known i g) (kept ++ f ∷ []))
         there i g q lt other =
-            let h : Group = get_or old.known.keys i g in
-            let away : is_same_group h (group_of f) ≡ false = ap (λ (k : Group). is_same_group k (group_of f)) (get_or_default old.known.keys i g d lt) ∙ apart i lt other in
-            agrees_at (get_or new.ranges.items i q) (get_or old.ranges.items i q) (of_group (get_or new.known.keys i g) (kept ++ f ∷ [])) (of_group h kept)
+            let h : Group = get_or old.known i g in
+            let away : is_same_group h (group_of f) ≡ false = ap (λ (k : Group). is_same_group k (group_of f)) (get_or_default old.known i g d lt) ∙ apart i lt other in
+            agrees_at (get_or new.ranges.items i q) (get_or old.ranges.items i q) (of_group (get_or new.known i g) (kept ++ f ∷ [])) (of_group h kept)
             (ap (λ (l : List Ranges). get_or l i q) items ∙ get_or-set_other old.ranges.items number i r q other)
             (ap (λ (l : List Group). of_group (get_or l i g) (kept ++ f ∷ [])) keys ∙ group_stays h f kept away)
             (follows.ranges i g q lt)
 
-  pub follows_aside : new.known.keys ≡ old.known.keys → new.ranges.items ≡ old.ranges.items → Follows new kept
+  pub follows_aside : new.known ≡ old.known → new.ranges.items ≡ old.ranges.items → Follows new kept
   follows_aside keys items = record {
     known = keys ∙ follows.known;
     long = ap length items ∙ follows.long ∙ sym (ap length keys);
-    ranges = λ i g q lt. agrees_at (get_or new.ranges.items i q) (get_or old.ranges.items i q) (of_group (get_or new.known.keys i g) kept) (of_group (get_or old.known.keys i g) kept)
+    ranges = λ i g q lt. agrees_at (get_or new.ranges.items i q) (get_or old.ranges.items i q) (of_group (get_or new.known i g) kept) (of_group (get_or old.known i g) kept)
         (ap (λ (l : List Ranges). get_or l i q) items)
         (ap (λ (l : List Group). of_group (get_or l i g) kept) keys)
         (follows.ranges i g q (omega (arith, lt, ap length keys)));

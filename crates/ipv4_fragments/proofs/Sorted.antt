@@ -10,6 +10,7 @@ use Rattle.capture_terms.specs.declared.plan.Task.{Task}
 use Rattle.capture_terms.specs.Kept.{class_behind, kept_piece, classes_behind, classes_of, kept_among, kept_of}
 use Rattle.capture_terms.specs.Plan.{task_at, tasks_from, tasks_of, groups_of, kinds_of, IsPlan}
 use Rattle.capture_terms.specs.Classes.{kind_of}
+use Rattle.capture_terms.specs.Capture.{contents_of, link_numbered}
 use Rattle.capture_terms.specs.declared.capture.Capture.{Capture}
 use Rattle.capture_terms.specs.declared.capture.Frame.{Frame}
 use Rattle.capture_terms.specs.declared.plan.Plan.{Plan}
@@ -73,8 +74,8 @@ pub holds_more : (old new : Sorting) (kinds : List Kind) (kind : Kind) (number :
     → number ≡ length kinds → Holds old kinds
     → class ≡ class_behind (kept_of kinds) kind
     → Follows new.groups (kept_of kinds ++ option_to_list (kept_piece class kind))
-    → new.groups.known.keys ≡ old.groups.known.keys ++ extra
-    → ((more : List Group) → task ≡ task_at (new.groups.known.keys ++ more) number class kind)
+    → new.groups.known ≡ old.groups.known ++ extra
+    → ((more : List Group) → task ≡ task_at (new.groups.known ++ more) number class kind)
     → new.classes.items ≡ old.classes.items ++ class ∷ []
     → new.tasks.items ≡ old.tasks.items ++ option_to_list task
     → Holds new (kinds ++ kind ∷ [])
@@ -83,9 +84,9 @@ holds_more old new kinds kind number class task extra here before is follows key
   groups = subst (Follows new.groups) (ap (λ (k : Class). kept_of kinds ++ option_to_list (kept_piece k kind)) is ∙ sym (kept_push kinds kind)) follows;
   tasks = λ more.
       tasks
-      ∙ ap (λ (l : List Task). l ++ option_to_list task) (before.tasks (extra ++ more) ∙ ap (λ (l : List Group). tasks_from l 0 (classes_of kinds) kinds) (sym (append_assoc old.groups.known.keys extra more) ∙ ap (λ (l : List Group). l ++ more) (sym keys)))
-      ∙ ap (λ (o : Option Task). tasks_from (new.groups.known.keys ++ more) 0 (classes_of kinds) kinds ++ option_to_list o) (made more ∙ ap (λ (n : ℕ). task_at (new.groups.known.keys ++ more) n class kind) here ∙ ap (λ (k : Class). task_at (new.groups.known.keys ++ more) (length kinds) k kind) is)
-      ∙ sym (tasks_push (new.groups.known.keys ++ more) kinds kind);
+      ∙ ap (λ (l : List Task). l ++ option_to_list task) (before.tasks (extra ++ more) ∙ ap (λ (l : List Group). tasks_from l 0 (classes_of kinds) kinds) (sym (append_assoc old.groups.known extra more) ∙ ap (λ (l : List Group). l ++ more) (sym keys)))
+      ∙ ap (λ (o : Option Task). tasks_from (new.groups.known ++ more) 0 (classes_of kinds) kinds ++ option_to_list o) (made more ∙ ap (λ (n : ℕ). task_at (new.groups.known ++ more) n class kind) here ∙ ap (λ (k : Class). task_at (new.groups.known ++ more) (length kinds) k kind) is)
+      ∙ sym (tasks_push (new.groups.known ++ more) kinds kind);
 }
 
 pub holds_none : (sorting : Sorting) → sorting.classes.items ≡ [] → sorting.tasks.items ≡ [] → Follows sorting.groups [] → Holds sorting []
@@ -93,16 +94,16 @@ unfolding classes_of kept_of
 holds_none sorting classes tasks follows = record { classes = classes; groups = follows; tasks = λ more. tasks }
 
 pub plan_from : (bytes : List ℕ) (capture : Capture) (sorting : Sorting) (plan : Plan) (number : ℕ)
-    → Holds sorting (map (kind_of capture.link bytes) (take number capture.frames.items)) → length capture.frames.items ≤ number
-    → plan.classes.items ≡ sorting.classes.items → plan.tasks.items ≡ sorting.tasks.items → plan.groups.items ≡ sorting.groups.known.keys
+    → Holds sorting (map (kind_of (link_numbered capture.link) bytes) (take number capture.frames.items)) → length capture.frames.items ≤ number
+    → plan.classes.items ≡ sorting.classes.items → plan.tasks.items ≡ sorting.tasks.items → plan.groups.items ≡ sorting.groups.known
     → IsPlan bytes capture plan
 unfolding tasks_of groups_of
 plan_from bytes capture sorting plan number holds all classes tasks groups =
     let whole : take number capture.frames.items ≡ capture.frames.items = take_all number capture.frames.items all in
-    let now : Holds sorting (kinds_of bytes capture) = subst (λ (l : List Frame). Holds sorting (map (kind_of capture.link bytes) l)) whole holds in
-    let known : sorting.groups.known.keys ≡ groups_of (kinds_of bytes capture) = now.groups.known in
+    let now : Holds sorting (kinds_of bytes (contents_of capture)) = subst (λ (l : List Frame). Holds sorting (map (kind_of (link_numbered capture.link) bytes) l)) whole holds in
+    let known : sorting.groups.known ≡ groups_of (kinds_of bytes (contents_of capture)) = now.groups.known in
     record {
       classes = classes ∙ now.classes;
-      tasks = tasks ∙ now.tasks [] ∙ ap (λ (l : List Group). tasks_from l 0 (classes_of (kinds_of bytes capture)) (kinds_of bytes capture)) (append-nil sorting.groups.known.keys ∙ known);
+      tasks = tasks ∙ now.tasks [] ∙ ap (λ (l : List Group). tasks_from l 0 (classes_of (kinds_of bytes (contents_of capture))) (kinds_of bytes (contents_of capture))) (append-nil sorting.groups.known ∙ known);
       groups = groups ∙ known;
     }

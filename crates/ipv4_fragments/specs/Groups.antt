@@ -14,6 +14,6 @@ of_group group pieces = filter (λ piece. is_same_group group (group_of piece)) 
 
 -- each group is known by its number, and its ranges are those of its kept fragments
 pub record Follows (groups : Groups) (kept : List Piece) : Type 0 where
-  pub known : groups.known.keys ≡ groups_among kept
-  pub long : length groups.ranges.items ≡ length groups.known.keys
-  pub ranges : (i : ℕ) (group : Group) (ranges : Ranges) → i < length groups.known.keys → Agrees (slice_index_or groups.ranges.items i ranges) (of_group (slice_index_or groups.known.keys i group) kept)
+  pub known : groups.known ≡ groups_among kept
+  pub long : length groups.ranges.items ≡ length groups.known
+  pub ranges : (i : ℕ) (group : Group) (ranges : Ranges) → i < length groups.known → Agrees (slice_index_or groups.ranges.items i ranges) (of_group (slice_index_or groups.known i group) kept)

@@ -11,4 +11,4 @@ use Rattle.ipv4_fragments.specs.Groups.{Follows}
 pub record Holds (sorting : Sorting) (kinds : List Kind) : Type 0 where
   pub classes : sorting.classes.items ≡ classes_of kinds
   pub groups : Follows sorting.groups (kept_of kinds)
-  pub tasks : (more : List Group) → sorting.tasks.items ≡ tasks_from (sorting.groups.known.keys ++ more) 0 (classes_of kinds) kinds
+  pub tasks : (more : List Group) → sorting.tasks.items ≡ tasks_from (sorting.groups.known ++ more) 0 (classes_of kinds) kinds

@@ -6,14 +6,15 @@ ghost use Rattle.capture_terms.specs.Numbers.{number16, number32};
 ghost use Rattle.capture_terms.specs.declared.capture.Endianness.TheVariants.{Big};
 ghost use Rattle.ipv4_fragments.specs.Header.{HasHeader, HasPlaces, IsSound};
 
-use capture_terms::{Frame, Header, Kind, Piece};
+use byteorder::{BigEndian, ByteOrder};
+use capture_terms::{Frame, Header, Kind, Link, Piece};
 
 #[tactic(auto, unfolding(capture_terms::specs::Numbers::number16))]
 fn u16_at(bytes: &[u8], at: usize) -> u16
     requires { at + 2 ≤ length bytes.now }
     ensures { result ≡ number16 Big bytes.now at }
 {
-    u16::from(bytes[at]) * 256 + u16::from(bytes[at + 1])
+    BigEndian::read_u16(&bytes[at..])
 }
 
 #[tactic(auto, unfolding(capture_terms::specs::Numbers::number32))]
@@ -21,10 +22,7 @@ fn u32_at(bytes: &[u8], at: usize) -> u32
     requires { at + 4 ≤ length bytes.now }
     ensures { result ≡ number32 Big bytes.now at }
 {
-    u32::from(bytes[at]) * 16777216
-        + u32::from(bytes[at + 1]) * 65536
-        + u32::from(bytes[at + 2]) * 256
-        + u32::from(bytes[at + 3])
+    BigEndian::read_u32(&bytes[at..])
 }
 
 fn has_type(frame: &[u8], at: usize, kind: u16) -> bool
@@ -77,14 +75,13 @@ fn raw_start(frame: &[u8]) -> Option<usize>
     }
 }
 
-fn datagram_start(link: u16, frame: &[u8]) -> Option<usize>
+fn datagram_start(link: Link, frame: &[u8]) -> Option<usize>
     ensures start { result ≡ classes.datagram_start link frame.now }
     ensures within { IfSome result (λ start. start ≤ length frame.now) }
 {
-    if link == 1 {
-        ethernet_start(frame)
-    } else {
-        raw_start(frame)
+    match link {
+        Link::Ethernet => ethernet_start(frame),
+        Link::Raw => raw_start(frame),
     }
 }
 
@@ -189,14 +186,17 @@ fn datagram_kind(at: u64, datagram: &[u8]) -> Kind
     }
 }
 
-/// What a frame is by itself.
+/// What a frame is by itself. Where the capture's link isn't one that is read, it carries no datagram.
 #[tactic(auto, unfolding(capture_terms::specs::Classes::kind_of))]
-pub fn kind_of(link: u16, bytes: &[u8], frame: &Frame) -> Kind
+pub fn kind_of(link: Option<Link>, bytes: &[u8], frame: &Frame) -> Kind
     requires { IsWithin bytes.now frame.now }
     ensures kind { result ≡ classes.kind_of link bytes.now frame.now }
     ensures sound { IsSound (length bytes.now) result }
     ensures places { HasPlaces result }
 {
+    let Some(link) = link else {
+        return Kind::Other;
+    };
     let at = frame.at as usize;
     let taken = &bytes[at..at + frame.length as usize];
     match datagram_start(link, taken) {

@@ -2,6 +2,7 @@
 #![tactic(auto)]
 
 mod assembly;
+mod group_list;
 mod groups;
 mod header;
 mod ranges;

@@ -10,7 +10,7 @@ ghost use Rattle.ipv4_fragments.specs.Sorting.{Holds};
 
 use crate::groups::Groups;
 use crate::header::kind_of;
-use capture_terms::{Capture, Class, Kind, Piece, Plan, Task};
+use capture_terms::{Capture, Class, Kind, Link, Piece, Plan, Task};
 use std::alloc::{AllocError, Global};
 
 /// What is made of the frames so far.
@@ -43,13 +43,13 @@ fn settle(
     kind: &Kind,
 ) -> Result<(Class, Option<Task>), AllocError>
     requires places { HasPlaces kind.now }
-    requires few { length groups.old.known.keys < 2 ^ 32 - 1 }
-    requires long { vec_len groups.old.ranges ≡ length groups.old.known.keys }
-    ensures long { OnOk result (vec_len groups.new.ranges ≡ length groups.new.known.keys) }
-    ensures grows { length groups.new.known.keys ≤ length groups.old.known.keys + 1 }
-    ensures extends { OnOk result ((extra : List Group) × (groups.new.known.keys ≡ groups.old.known.keys ++ extra)) }
+    requires few { length groups.old.known < 2 ^ 32 - 1 }
+    requires long { vec_len groups.old.ranges ≡ length groups.old.known }
+    ensures long { OnOk result (vec_len groups.new.ranges ≡ length groups.new.known) }
+    ensures grows { length groups.new.known ≤ length groups.old.known + 1 }
+    ensures extends { OnOk result ((extra : List Group) × (groups.new.known ≡ groups.old.known ++ extra)) }
     ensures class { IfOk result (λ found. (kept : List Piece) → Follows groups.old kept → (found.0 ≡ class_behind kept kind.now) × Follows groups.new (kept ++ option_to_list (kept_piece found.0 kind.now))) }
-    ensures task { IfOk result (λ found. (more : List Group) → found.1 ≡ task_at (groups.new.known.keys ++ more) number found.0 kind.now) }
+    ensures task { IfOk result (λ found. (more : List Group) → found.1 ≡ task_at (groups.new.known ++ more) number found.0 kind.now) }
 {
     match kind {
         Kind::Other => Ok((Class::Other, None)),
@@ -67,7 +67,7 @@ impl Sorting {
     /// What is made of no frames.
     pub fn new(alloc: Global) -> Sorting
         ensures holds { Holds result [] }
-        ensures empty { length result.groups.known.keys ≡ 0 }
+        ensures empty { length result.groups.known ≡ 0 }
     {
         Sorting {
             classes: Vec::new(alloc),
@@ -79,10 +79,10 @@ impl Sorting {
     /// Adds what is made of a further frame.
     pub fn add(&mut self, alloc: Global, number: u32, kind: &Kind) -> Result<(), AllocError>
         requires places { HasPlaces kind.now }
-        requires few { length self.old.groups.known.keys < 2 ^ 32 - 1 }
-        requires long { vec_len self.old.groups.ranges ≡ length self.old.groups.known.keys }
-        ensures long { OnOk result (vec_len self.new.groups.ranges ≡ length self.new.groups.known.keys) }
-        ensures grows { length self.new.groups.known.keys ≤ length self.old.groups.known.keys + 1 }
+        requires few { length self.old.groups.known < 2 ^ 32 - 1 }
+        requires long { vec_len self.old.groups.ranges ≡ length self.old.groups.known }
+        ensures long { OnOk result (vec_len self.new.groups.ranges ≡ length self.new.groups.known) }
+        ensures grows { length self.new.groups.known ≤ length self.old.groups.known + 1 }
         ensures holds { OnOk result ((kinds : List Kind) → number ≡ length kinds → Holds self.old kinds → Holds self.new (kinds ++ kind.now ∷ [])) }
     {
         let (class, task) = settle(alloc, &mut self.groups, number, kind)?;
@@ -105,14 +105,15 @@ pub fn classify(alloc: Global, capture: &Capture, bytes: &[u8]) -> Result<Plan, 
     requires { IsClassifiable bytes.now capture.now }
     ensures { IfOk result (λ plan. IsPlan bytes.now capture.now plan) }
 {
+    let link = Link::numbered(capture.link);
     let mut sorting = Sorting::new(alloc);
     for (number, frame) in capture.frames.iter().enumerate() {
-        let kind = kind_of(capture.link, bytes, frame);
+        let kind = kind_of(link, bytes, frame);
         sorting.add(alloc, number as u32, &kind)?;
     }
     Ok(Plan {
         classes: sorting.classes,
         tasks: sorting.tasks,
-        groups: sorting.groups.list(alloc)?,
+        groups: sorting.groups.into_groups(),
     })
 }

@@ -1,22 +1,19 @@
-ghost use Rattle.std.specs.Prelude.{ℕ, ◌+◌, ◌<◌, ◌^◌, [], ◌∷◌, length, List, IsTrue, IsSomeAnd, ◌≡◌};
+ghost use Rattle.std.specs.Prelude.{ℕ, ◌+◌, ◌<◌, ◌≤◌, ◌^◌, [], ◌∷◌, length, List, IsTrue, IsSomeAnd, IfOk, OnOk, ◌≡◌};
 ghost use Rattle.capture_terms.specs.declared.plan.Task.{Task};
 ghost use Rattle.capture_terms.specs.Datagram.{IsDatagramAt};
 ghost use Rattle.capture_terms.specs.Plan.{IsClassifiable, IsPlan};
+ghost use Rattle.capture_terms.specs.declared.capture.Capture.{Capture};
 
 use crate::{classify, payload};
-use capture_terms::{Capture, Class, Plan, Task};
-use pcap_frames::frames;
+use capture_terms::{Capture, Class, Frame, Link, Plan, Task};
 use std::alloc::{AllocError, Global};
 use std::process::Abort;
 use std::test::Fail;
 
-/// A file header of Ethernet.
-const ETHERNET: &[u8] =
-    b"\xd4\xc3\xb2\xa1\x02\x00\x04\x00\0\0\0\0\0\0\0\0\x00\x00\x04\x00\x01\x00\x00\x00";
+/// The numbers of the link types.
+const ETHERNET: u16 = 1;
 
-/// The same for raw IP.
-const RAW_IP: &[u8] =
-    b"\xd4\xc3\xb2\xa1\x02\x00\x04\x00\0\0\0\0\0\0\0\0\x00\x00\x04\x00\x65\x00\x00\x00";
+const RAW_IP: u16 = 101;
 
 /// An Ethernet header with the type of IPv4.
 const IPV4: &[u8] = b"\x02\0\0\0\0\x02\x02\0\0\0\0\x01\x08\x00";
@@ -45,20 +42,62 @@ type Given<'a> = (u16, u16, bool, &'a [u8]);
 /// What a task is to have: its frame, group, place in the datagram, length, and whether it is last.
 type Wanted = (u32, Option<u32>, u32, u32, bool);
 
-// Adds a record of a frame in two parts.
-fn add_record(bytes: &mut Vec<u8>, head: &[u8], tail: &[u8]) -> Result<(), AllocError>
+/// A capture, and the bytes of its frames one behind the other.
+#[derive(Drop)]
+struct Made {
+    capture: Capture,
+    bytes: Vec<u8>,
+}
+
+fn no_frames(alloc: Global, link: u16) -> Made {
+    Made {
+        capture: Capture {
+            nanos: false,
+            link,
+            frames: Vec::new(alloc),
+            torn: 0,
+        },
+        bytes: Vec::new(alloc),
+    }
+}
+
+// Adds a frame in two parts.
+fn add_frame(made: &mut Made, head: &[u8], tail: &[u8]) -> Result<(), AllocError>
     requires { length head.now + length tail.now < 2 ^ 32 }
 {
     let length = (head.len() + tail.len()) as u32;
-    bytes.extend_from_slice(&[0, 0, 0, 0, 0, 0, 0, 0])?;
-    bytes.extend_from_slice(&length.to_le_bytes())?;
-    bytes.extend_from_slice(&length.to_le_bytes())?;
-    bytes.extend_from_slice(head)?;
-    bytes.extend_from_slice(tail)
+    made.capture.frames.push(Frame {
+        seconds: 0,
+        fraction: 0,
+        at: made.bytes.len() as u64,
+        length,
+        original: length,
+    })?;
+    made.bytes.extend_from_slice(head)?;
+    made.bytes.extend_from_slice(tail)
+}
+
+fn is_within(frame: &Frame, end: u64) -> bool
+    ensures { IsTrue result → frame.now.at + frame.now.length ≤ end }
+{
+    frame.at <= end && u64::from(frame.length) <= end - frame.at
+}
+
+fn is_classifiable(made: &Made) -> bool
+    ensures { IsTrue result → IsClassifiable made.now.bytes.items made.now.capture }
+{
+    let end = made.bytes.len() as u64;
+    if made.capture.frames.len() > 262144 || Link::numbered(made.capture.link).is_none() {
+        return false;
+    }
+    made.capture
+        .frames
+        .iter()
+        .all(|frame| is_within(frame, end))
 }
 
 // Adds an Ethernet frame that carries an ICMP fragment from 10.0.0.1 to 192.0.2.1.
-fn add_fragment(bytes: &mut Vec<u8>, given: &Given) -> Result<(), AllocError> {
+fn add_fragment(made: &mut Made, given: &Given) -> Result<(), AllocError> {
     let (id, start, more, data) = *given;
     let total = (20 + data.len() % 1024) as u16;
     let flags = start / 8 % 8192 + if more { 8192 } else { 0 };
@@ -69,22 +108,27 @@ fn add_fragment(bytes: &mut Vec<u8>, given: &Given) -> Result<(), AllocError> {
         2, 0, 0, 0, 0, 2, 2, 0, 0, 0, 0, 1, 8, 0, 0x45, 0, total_high, total_low, id_high, id_low,
         flags_high, flags_low, 64, 1, 0, 0, 10, 0, 0, 1, 192, 0, 2, 1,
     ];
-    add_record(bytes, &head, &data[..data.len() % 1024])
+    add_frame(made, &head, &data[..data.len() % 1024])
 }
 
-fn plan_of(alloc: Global, bytes: &[u8]) -> Result<Plan, Fail> {
-    let capture = frames(alloc, bytes).ok().ok_or("a capture")?;
-    Ok(classify(alloc, &capture, bytes)?)
+fn plan_of(alloc: Global, made: &Made) -> Result<Plan, Fail>
+    ensures fine { OnOk result (IsClassifiable made.now.bytes.items made.now.capture) }
+    ensures plan { IfOk result (IsPlan made.now.bytes.items made.now.capture) }
+{
+    if !is_classifiable(made) {
+        return Err(Fail::from("frames that lie in the bytes"));
+    }
+    Ok(classify(alloc, &made.capture, &made.bytes)?)
 }
 
 fn check(
     rt: &impl Abort,
     alloc: Global,
-    bytes: &[u8],
+    made: &Made,
     classes: &[Class],
     wanted: &[Wanted],
 ) -> Result<(), Fail> {
-    let plan = plan_of(alloc, bytes)?;
+    let plan = plan_of(alloc, made)?;
     assert_eq!(rt; plan.classes.as_slice(), classes);
     let mut tasks: Vec<Wanted> = Vec::new(alloc);
     for task in &plan.tasks {
@@ -101,11 +145,11 @@ fn check_fragments(
     classes: &[Class],
     wanted: &[Wanted],
 ) -> Result<(), Fail> {
-    let mut bytes = ETHERNET.to_vec(alloc)?;
+    let mut made = no_frames(alloc, ETHERNET);
     for one in given {
-        add_fragment(&mut bytes, one)?;
+        add_fragment(&mut made, one)?;
     }
-    check(rt, alloc, &bytes, classes, wanted)
+    check(rt, alloc, &made, classes, wanted)
 }
 
 #[test]
@@ -212,44 +256,36 @@ fn tells_the_other_classes(rt: HostRuntime) -> Result<(), Fail> {
         (ETHERNET, IPV4, NO_HEAD, (Class::Bad, None)),
         (RAW_IP, NO_HEAD, NO_HEAD, (Class::Other, None)),
     ];
-    for (header, head, datagram, (class, task)) in cases {
-        let mut bytes = header.to_vec(alloc)?;
+    for (link, head, datagram, (class, task)) in cases {
+        let mut made = no_frames(alloc, link);
         if head.len() < 1024 && datagram.len() < 1024 {
-            add_record(&mut bytes, head, datagram)?;
+            add_frame(&mut made, head, datagram)?;
         }
         match task {
-            None => check(&rt, alloc, &bytes, &[class], &[])?,
-            Some(task) => check(&rt, alloc, &bytes, &[class], &[task])?,
+            None => check(&rt, alloc, &made, &[class], &[])?,
+            Some(task) => check(&rt, alloc, &made, &[class], &[task])?,
         }
     }
     Ok(())
 }
 
-fn data_of(
-    alloc: Global,
-    capture: &Capture,
-    plan: &Plan,
-    bytes: &[u8],
-    tasks: &[u32],
-) -> Result<Vec<u8>, AllocError>
-    requires fine { IsClassifiable bytes.now capture.now }
-    requires plan { IsPlan bytes.now capture.now plan.now }
+fn data_of(alloc: Global, made: &Made, plan: &Plan, tasks: &[u32]) -> Result<Vec<u8>, AllocError>
+    requires fine { IsClassifiable made.now.bytes.items made.now.capture }
+    requires plan { IsPlan made.now.bytes.items made.now.capture plan.now }
     requires tasks { (datagram : List Task) × IsDatagramAt plan.now.tasks.items tasks.now datagram }
 {
-    payload(alloc, plan, bytes, tasks)
+    payload(alloc, plan, &made.bytes, tasks)
 }
 
 #[test]
 fn gives_the_data_of_a_whole_datagram(rt: HostRuntime) -> Result<(), Fail> {
     let alloc = rt.alloc();
-    let mut file = ETHERNET.to_vec(alloc)?;
-    add_record(&mut file, IPV4, HELLO)?;
-    let bytes = file.as_slice();
-    let capture = frames(alloc, bytes).ok().ok_or("a capture")?;
-    let plan = classify(alloc, &capture, bytes)?;
+    let mut made = no_frames(alloc, ETHERNET);
+    add_frame(&mut made, IPV4, HELLO)?;
+    let plan = plan_of(alloc, &made)?;
     assert_eq!(rt; plan.tasks.len(), 1);
     assert!(rt; plan.tasks[0].group.is_none());
-    let data = data_of(alloc, &capture, &plan, bytes, &[0])?;
+    let data = data_of(alloc, &made, &plan, &[0])?;
     assert_eq!(rt;
         data.as_slice(),
         b"\x0f\xa0\x00\x35\x00\x0d\x00\x00hello".as_slice()
@@ -296,15 +332,13 @@ fn are_end_and_front(tasks: &[Task]) -> bool
 #[test]
 fn gives_the_data_of_a_group_in_any_order_of_its_tasks(rt: HostRuntime) -> Result<(), Fail> {
     let alloc = rt.alloc();
-    let mut file = ETHERNET.to_vec(alloc)?;
-    add_fragment(&mut file, &(1, 8, false, b"ijkl".as_slice()))?;
-    add_fragment(&mut file, &(1, 0, true, b"abcdefgh".as_slice()))?;
-    let bytes = file.as_slice();
-    let capture = frames(alloc, bytes).ok().ok_or("a capture")?;
-    let plan = classify(alloc, &capture, bytes)?;
+    let mut made = no_frames(alloc, ETHERNET);
+    add_fragment(&mut made, &(1, 8, false, b"ijkl".as_slice()))?;
+    add_fragment(&mut made, &(1, 0, true, b"abcdefgh".as_slice()))?;
+    let plan = plan_of(alloc, &made)?;
     let are_both = are_end_and_front(&plan.tasks);
     assert!(rt; are_both);
-    let data = data_of(alloc, &capture, &plan, bytes, &[1, 0])?;
+    let data = data_of(alloc, &made, &plan, &[1, 0])?;
     assert_eq!(rt; data.as_slice(), b"abcdefghijkl".as_slice());
     Ok(())
 }

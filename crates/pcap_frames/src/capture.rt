@@ -19,7 +19,7 @@ pub enum CaptureEnd {
     Header { at: u64 },
     /// The version is another than 2.4.
     Version,
-    /// The link type is neither Ethernet nor raw IP.
+    /// The link type is none of those that are read.
     Link { number: u16 },
     /// The record whose header stands at this place says that it holds more than 262,144 bytes.
     Record { at: u64 },

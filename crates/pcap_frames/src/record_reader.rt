@@ -6,7 +6,7 @@ ghost use Rattle.pcap_frames.specs.Reader.{IsAccepted, IsNext};
 
 use crate::capture::CaptureEnd;
 use byteorder::{BigEndian, ByteOrder, LittleEndian};
-use capture_terms::{Endianness, Frame};
+use capture_terms::{Endianness, Frame, Link};
 
 const MAGIC: u32 = 0xa1b2c3d4;
 
@@ -15,10 +15,6 @@ const FILE_HEADER: usize = 24;
 const RECORD_HEADER: usize = 16;
 
 const MAX_LENGTH: u32 = 262144;
-
-const ETHERNET: u16 = 1;
-
-const RAW_IP: u16 = 101;
 
 /// What a file header says: the byte order of the file's numbers, and the link type.
 #[derive(Clone, Copy, Debug, PartialEq, Eq)]
@@ -78,7 +74,7 @@ pub fn file_header(bytes: &[u8]) -> Result<FileHeader, CaptureEnd>
         return Err(CaptureEnd::Version);
     }
     let link = (u32_at(order, bytes, 20) % 65536) as u16;
-    if link != ETHERNET && link != RAW_IP {
+    if Link::numbered(link).is_none() {
         return Err(CaptureEnd::Link { number: link });
     }
     Ok(FileHeader { order, link })

@@ -8,11 +8,11 @@ use Rattle.ipv4_fragments.proofs.KeptGroups.{any_in_group, follows_new, follows_
 use Rattle.ipv4_fragments.proofs.groups.Groups.keep.Goals as goal
 use Rattle.ipv4_fragments.proofs.groups.Groups.keep.Goals.{In_ok-push, Then-clashes, In_ok-keep-2}
 
-unknown : (c : In_ok-push) → list_any (is_same_group (group_of c.args.piece.now)) c.args.self.now.known.keys ≡ false
+unknown : (c : In_ok-push) → list_any (is_same_group (group_of c.args.piece.now)) c.args.self.now.known ≡ false
 unknown c = new_unknown _ _ c.in_ok-number.ensures.added c.if-is_new.true
 
 pub returns-then-is_new-clause-number : goal.returns-then-is_new-clause-number
-returns-then-is_new-clause-number c = number_new c.args.self.now.known.keys c.args.piece.now c.in_ok-number.number c.in_ok-number.ensures.index (unknown c) c.insert_full.new.self.keys (c.in_ok-number.ensures.keys ∙ (rw (unknown c)))
+returns-then-is_new-clause-number c = number_new c.args.self.now.known c.args.piece.now c.in_ok-number.number c.in_ok-number.ensures.index (unknown c) c.insert.new.self (c.in_ok-number.ensures.keys ∙ (rw (unknown c)))
 
 pub returns-then-is_new-clause-kept : goal.returns-then-is_new-clause-kept
 returns-then-is_new-clause-kept c = λ kept follows. follows_new c.args.self.now _ kept follows c.args.piece.now (unknown c) (c.in_ok-number.ensures.keys ∙ (rw (unknown c))) c.keep.new.self c.in_ok-push.ensures.items (c.in_ok-keep.ensures [] c.new-ranges.ensures refl)
@@ -23,15 +23,15 @@ returns-then-clashes-clause-kept c = λ kept follows.
     let old = c.args.self.now in
     let f = c.args.piece.now in
     let first = c.in_ok-number.ensures.index in
-    let within = place_old old.known.keys f c.in_ok-number.number first known in
-    let mine = mine_there old.known.keys f c.in_ok-number.number first (group_of f) within in
+    let within = place_old old.known f c.in_ok-number.number first known in
+    let mine = mine_there old.known f c.in_ok-number.number first (group_of f) within in
     let agrees : Agrees c.index.result.now (of_group (group_of f) kept) = subst (λ (r : Ranges). Agrees r (of_group (group_of f) kept)) (sym c.index.ensures) (at_number old old kept follows f c.in_ok-number.number within (group_of f) c.index.result.now mine) in (
       any_in_group f kept ∙ sym (c.clashes.ensures (of_group (group_of f) kept) agrees) ∙ c.if-clashes.true,
       follows_aside old _ kept follows f (c.in_ok-number.ensures.keys ∙ (rw known)) refl,
     )
 
 pub returns-clause-number : goal.returns-clause-number
-returns-clause-number c = number_old c.args.self.now.known.keys c.args.piece.now c.in_ok-number.number c.in_ok-number.ensures.index (old_known _ _ c.in_ok-number.ensures.added c.if-is_new.false) c.insert_full.new.self.keys (c.in_ok-number.ensures.keys ∙ (rw (old_known _ _ c.in_ok-number.ensures.added c.if-is_new.false)))
+returns-clause-number c = number_old c.args.self.now.known c.args.piece.now c.in_ok-number.number c.in_ok-number.ensures.index (old_known _ _ c.in_ok-number.ensures.added c.if-is_new.false) c.insert.new.self (c.in_ok-number.ensures.keys ∙ (rw (old_known _ _ c.in_ok-number.ensures.added c.if-is_new.false)))
 
 pub returns-clause-kept : goal.returns-clause-kept
 returns-clause-kept c = λ kept follows.
@@ -39,14 +39,14 @@ returns-clause-kept c = λ kept follows.
     let old = c.args.self.now in
     let f = c.args.piece.now in
     let first = c.in_ok-number.ensures.index in
-    let within = place_old old.known.keys f c.in_ok-number.number first known in
-    let mine = mine_there old.known.keys f c.in_ok-number.number first (group_of f) within in
-    let same : c.insert_full.new.self.keys ≡ old.known.keys = c.in_ok-number.ensures.keys ∙ (rw known) in
-    let distinct : IsDistinct is_same_group old.known.keys = subst (IsDistinct is_same_group) same c.in_ok-number.ensures.unique in
+    let within = place_old old.known f c.in_ok-number.number first known in
+    let mine = mine_there old.known f c.in_ok-number.number first (group_of f) within in
+    let same : c.insert.new.self ≡ old.known = c.in_ok-number.ensures.keys ∙ (rw known) in
+    let distinct : IsDistinct is_same_group old.known = subst (IsDistinct is_same_group) same c.in_ok-number.ensures.unique in
     let agrees : Agrees c.index.result.now (of_group (group_of f) kept) = subst (λ (r : Ranges). Agrees r (of_group (group_of f) kept)) (sym c.index.ensures) (at_number old old kept follows f c.in_ok-number.number within (group_of f) c.index.result.now mine) in
     let stands : list_any (cannot_both_stand f) (of_group (group_of f) kept) ≡ false = sym (c.clashes.ensures (of_group (group_of f) kept) agrees) ∙ c.if-clashes.false in
     let now : c.index_mut.result.now ≡ get_or old.ranges.items c.in_ok-number.number c.index_mut.result.now = c.index_mut.ensures.value in
     let agreed : Agrees c.index_mut.result.now (of_group (group_of f) kept) = subst (λ (r : Ranges). Agrees r (of_group (group_of f) kept)) (sym now) (at_number old old kept follows f c.in_ok-number.number within (group_of f) c.index_mut.result.now mine) in (
       any_in_group f kept ∙ stands,
-      follows_kept old _ kept follows f c.in_ok-number.number within (group_of f) c.index_mut.result.now mine same (apart_keys old.known.keys distinct (group_of f) c.in_ok-number.number (group_of f) within mine) c.keep-2.new.self refl (c.in_ok-keep-2.ensures (of_group (group_of f) kept) agreed stands),
+      follows_kept old _ kept follows f c.in_ok-number.number within (group_of f) c.index_mut.result.now mine same (apart_keys old.known distinct (group_of f) c.in_ok-number.number (group_of f) within mine) c.keep-2.new.self refl (c.in_ok-keep-2.ensures (of_group (group_of f) kept) agreed stands),
     )

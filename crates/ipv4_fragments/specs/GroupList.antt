@@ -1,0 +1,22 @@
+-- Groups by their numbers.
+use Rattle.std.specs.Prelude.{◌≡◌, ℕ, List, position}
+use Rattle.std.specs.List.{IsDistinct}
+use Rattle.std.specs.BTreeMap.{get}
+use Rattle.std.specs.BTreeMap.{BTreeMap}
+use Rattle.capture_terms.specs.declared.plan.Group.{Group}
+use Rattle.std.specs.Ordering.{nat_cmp, ordering_then}
+use Rattle.std.specs.declared.cmp.Ordering.{Ordering}
+use Rattle.capture_terms.specs.declared.datagram.Header.{Header}
+use Rattle.capture_terms.specs.Kept.{is_same_group}
+
+-- groups are ordered by their sources, then by the other fields in turn
+abbrev pub header_cmp : Header → Header → Ordering
+header_cmp g h = ordering_then (nat_cmp g.source h.source) (ordering_then (nat_cmp g.destination h.destination) (nat_cmp g.protocol h.protocol))
+
+abbrev pub group_cmp : Group → Group → Ordering
+group_cmp g h = ordering_then (header_cmp g.header h.header) (nat_cmp g.id h.id)
+
+-- the map has the place of each group of the list, and of no other, and the groups differ
+pub record AreNumbered (numbers : BTreeMap Group ℕ) (groups : List Group) : Type 0 where
+  pub places : (group : Group) → get group_cmp numbers group ≡ position (is_same_group group) groups
+  pub differ : IsDistinct is_same_group groups

@@ -1,0 +1,66 @@
+ghost use Rattle.std.specs.Prelude.{◌≡◌, ◌-◌, ◌<◌, ◌^◌, List, [], ◌∷◌, ◌++◌, length, not, IfOk, OnErr, if◌then◌else◌};
+ghost use Rattle.std.specs.List.{list_any, position_or_len, IsDistinct};
+ghost use Rattle.capture_terms.specs.declared.plan.Group.{Group};
+ghost use Rattle.capture_terms.specs.Kept.{is_same_group};
+ghost use Rattle.ipv4_fragments.specs.GroupList.{AreNumbered};
+
+use capture_terms::Group;
+use std::alloc::{AllocError, Global};
+use std::collections::BTreeMap;
+use std::marker::Model;
+
+/// Different groups in the order in which they came, which contracts see as a list.
+///
+/// A group is found by comparing it with few others, so no choice of groups makes the search slow.
+#[derive(Drop)]
+pub struct GroupList {
+    numbers: BTreeMap<Group, u32>,
+    groups: Vec<Group>,
+}
+
+impl Model for GroupList {
+    ghost Value = { List Group };
+
+    ghost view = { λ l. l.groups.items };
+
+    ghost invariant = { λ l. AreNumbered l.numbers l.groups.items };
+}
+
+impl GroupList {
+    /// No groups.
+    pub fn new(alloc: Global) -> GroupList
+        ensures { result ≡ [] }
+    {
+        GroupList {
+            numbers: BTreeMap::new(alloc),
+            groups: Vec::new(alloc),
+        }
+    }
+
+    /// The number of a group, and whether the group is new, in which case it is put behind the others.
+    pub fn insert(&mut self, group: Group) -> Result<(u32, bool), AllocError>
+        requires few { length self.old < 2 ^ 32 - 1 }
+        ensures added { IfOk result (λ found. found.1 ≡ not (list_any (is_same_group group) self.old)) }
+        ensures keys { IfOk result (λ found. self.new ≡ (if list_any (is_same_group group) self.old then self.old else self.old ++ group ∷ [])) }
+        ensures index { IfOk result (λ found. found.0 ≡ position_or_len (is_same_group group) self.old) }
+        ensures within { IfOk result (λ found. found.0 < length self.new) }
+        ensures unique { IsDistinct is_same_group self.new }
+        ensures err { OnErr result (self.new ≡ self.old) }
+    {
+        if let Some(number) = self.numbers.get(&group) {
+            return Ok((*number, false));
+        }
+        self.groups.reserve(1)?;
+        let number = self.groups.len() as u32;
+        self.numbers.insert(group, number)?;
+        self.groups.push(group).unwrap();
+        Ok((number, true))
+    }
+
+    /// The groups in their order.
+    pub fn into_groups(self) -> Vec<Group>
+        ensures { result.items ≡ self }
+    {
+        self.groups
+    }
+}
