@@ -4,6 +4,7 @@ use Rattle.std.specs.Prelude.{All, IfSome, option_to_list, position, fold, if◌
 use Rattle.std.specs.List.{list_any}
 use Rattle.std.proofs.lemmas.List.{length-map}
 use Rattle.std.proofs.lemmas.List.Quantifiers.{position-Some}
+use Rattle.capture_terms.specs.Capture.{contents_of, link_numbered}
 use Rattle.capture_terms.specs.declared.capture.Capture.{Capture}
 use Rattle.capture_terms.specs.declared.datagram.Class.{Class}
 use Rattle.capture_terms.specs.declared.datagram.Class.TheVariants as class
@@ -97,23 +98,23 @@ grouped_of : (kinds : List Kind) → All (IsGrouped (length (groups_of kinds))) 
 unfolding tasks_of
 grouped_of kinds = tasks_grouped (groups_of kinds) 0 (classes_of kinds) kinds
 
-frames_few : (bytes : List ℕ) (capture : Capture) → IsClassifiable bytes capture → length (kinds_of bytes capture) ≤ 262144
-frames_few bytes capture classifiable = omega (arith, length-map capture.frames.items (kind_of capture.link bytes), classifiable.few)
+frames_few : (bytes : List ℕ) (capture : Capture) → IsClassifiable bytes capture → length (kinds_of bytes (contents_of capture)) ≤ 262144
+frames_few bytes capture classifiable = omega (arith, length-map capture.frames.items (kind_of (link_numbered capture.link) bytes), classifiable.few)
 
 module _ (bytes : List ℕ) (capture : Capture) (plan : Plan) (classifiable : IsClassifiable bytes capture) (is : IsPlan bytes capture plan) where
   pub few_tasks : length plan.tasks.items < 2 ^ 32
   few_tasks =
-      let few = few_tasks_of (kinds_of bytes capture) in
+      let few = few_tasks_of (kinds_of bytes (contents_of capture)) in
       let same = ap (length {A = Task}) is.tasks in
       omega (arith, frames_few bytes capture classifiable, few, same)
 
   pub few_groups : length plan.groups.items < 2 ^ 32
   few_groups =
-      let few = few_groups_of (kinds_of bytes capture) in
+      let few = few_groups_of (kinds_of bytes (contents_of capture)) in
       let same = ap (length {A = Group}) is.groups in
       omega (arith, frames_few bytes capture classifiable, few, same)
 
   pub grouped : All (IsGrouped (length plan.groups.items)) plan.tasks.items
   grouped =
-      let same : (groups_of (kinds_of bytes capture), tasks_of (kinds_of bytes capture)) ≡ (plan.groups.items, plan.tasks.items) = cc in
-      subst (λ (both : List Group × List Task). All (IsGrouped (length both.0)) both.1) same (grouped_of (kinds_of bytes capture))
+      let same : (groups_of (kinds_of bytes (contents_of capture)), tasks_of (kinds_of bytes (contents_of capture))) ≡ (plan.groups.items, plan.tasks.items) = cc in
+      subst (λ (both : List Group × List Task). All (IsGrouped (length both.0)) both.1) same (grouped_of (kinds_of bytes (contents_of capture)))

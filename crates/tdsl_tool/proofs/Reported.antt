@@ -35,7 +35,7 @@ abbrev text_from : List Rule → Contents → List Class → List Group → ℕ 
 text_from rules contents classes groups open_groups findings = text_of (report_lines contents classes groups rules open_groups findings)
 
 reported : (rules : List Rule) (bytes : List ℕ) (capture : Capture)
-    → text_from rules (contents_of capture) (classes_of (kinds_of bytes capture)) (groups_of (kinds_of bytes capture)) (incomplete (tasks_of (kinds_of bytes capture)) (groups_of (kinds_of bytes capture))) (all_findings rules bytes (tasks_of (kinds_of bytes capture)))
+    → text_from rules (contents_of capture) (classes_of (kinds_of bytes (contents_of capture))) (groups_of (kinds_of bytes (contents_of capture))) (incomplete (tasks_of (kinds_of bytes (contents_of capture))) (groups_of (kinds_of bytes (contents_of capture)))) (all_findings rules bytes (tasks_of (kinds_of bytes (contents_of capture))))
     ≡ report_of rules bytes (contents_of capture)
 unfolding report_of
 reported rules bytes capture = refl
@@ -47,7 +47,7 @@ module _ (rules : List Rule) (bytes : List ℕ) (capture : Capture) (plan : Plan
   report_is open_groups findings text found few open_is text_is =
       let contents = contents_of capture in
       let all = found ∙ ap (all_findings rules bytes) is.tasks in
-      let open_of = open_is ∙ ap (λ (tasks : List Task). incomplete tasks plan.groups.items) is.tasks ∙ ap (incomplete (tasks_of (kinds_of bytes capture))) is.groups in
+      let open_of = open_is ∙ ap (λ (tasks : List Task). incomplete tasks plan.groups.items) is.tasks ∙ ap (incomplete (tasks_of (kinds_of bytes (contents_of capture)))) is.groups in
       let few_of : length (findings_of_capture rules bytes contents) ≤ max_findings = omega (arith, few, ap (length {A = ℕ}) all) in
       record {
         capture = answer_is (captured contents);
@@ -55,9 +55,9 @@ module _ (rules : List Rule) (bytes : List ℕ) (capture : Capture) (plan : Plan
         comes_to = ap reports
             (text_is
             ∙ ap (λ (c : List Class). text_from rules contents c plan.groups.items open_groups findings) is.classes
-            ∙ ap (λ (g : List Group). text_from rules contents (classes_of (kinds_of bytes capture)) g open_groups findings) is.groups
-            ∙ ap (λ (n : ℕ). text_from rules contents (classes_of (kinds_of bytes capture)) (groups_of (kinds_of bytes capture)) n findings) open_of
-            ∙ ap (text_from rules contents (classes_of (kinds_of bytes capture)) (groups_of (kinds_of bytes capture)) (incomplete (tasks_of (kinds_of bytes capture)) (groups_of (kinds_of bytes capture)))) all
+            ∙ ap (λ (g : List Group). text_from rules contents (classes_of (kinds_of bytes (contents_of capture))) g open_groups findings) is.groups
+            ∙ ap (λ (n : ℕ). text_from rules contents (classes_of (kinds_of bytes (contents_of capture))) (groups_of (kinds_of bytes (contents_of capture))) n findings) open_of
+            ∙ ap (text_from rules contents (classes_of (kinds_of bytes (contents_of capture))) (groups_of (kinds_of bytes (contents_of capture))) (incomplete (tasks_of (kinds_of bytes (contents_of capture))) (groups_of (kinds_of bytes (contents_of capture))))) all
             ∙ reported rules bytes capture)
             ∙ under_few rules bytes contents few_of;
       }

@@ -2,16 +2,16 @@
 use Rattle.std.specs.Prelude.{ℕ, List}
 use Rattle.capture_terms.specs.Capture.{Contents}
 use Rattle.capture_terms.specs.Kept.{classes_of}
-use Rattle.capture_terms.specs.Plan.{tasks_of, groups_of}
+use Rattle.capture_terms.specs.Plan.{kinds_of, tasks_of, groups_of}
 use Rattle.capture_terms.specs.Datagram.{incomplete}
 use Rattle.rule_terms.specs.Rule.{Rule}
-use Rattle.inspection_terms.specs.Findings.{kinds_in, findings_of_capture}
+use Rattle.inspection_terms.specs.Findings.{findings_of_capture}
 use Rattle.report.specs.Report.{report_lines, text_of}
 
 -- the report of a capture under rules, from the capture's bytes to the text
 unfoldable pub report_of : List Rule → List ℕ → Contents → List ℕ
 report_of rules bytes contents =
-    let kinds = kinds_in bytes contents in
+    let kinds = kinds_of bytes contents in
     let groups = groups_of kinds in
     let open_groups = incomplete (tasks_of kinds) groups in
     text_of (report_lines contents (classes_of kinds) groups rules open_groups (findings_of_capture rules bytes contents))
