@@ -1,7 +1,8 @@
 -- No two answers are right about one file.
 use Rattle.std.proofs.Common.{◌≡◌, ℕ, ◌≤◌, ◌⊎◌, inl, inr, Bool, List, length, refl, sym, ◌∙◌, ap, subst, arith}
 use Rattle.capture_terms.specs.Numbers.{number32}
-use Rattle.capture_terms.specs.Capture.{HasMagic, IsHeader, IsAcceptedLink, link_of, HasFrames, IsTail, Contents, Says, HasShortHeader, HasOtherMagic, HasOtherVersion, HasOtherLink, HasLongRecord, HasTooManyFrames, Answer, captured, bad_header, other_version, other_link, long_record, too_many_frames, IsAnswer}
+use Rattle.capture_terms.specs.Capture.{HasMagic, IsHeader, IsAcceptedLink, link_of, HasFrames, IsTail, Contents, Says, HasShortHeader, HasOtherMagic, HasOtherVersion, HasOtherLink, HasLongRecord, HasTooManyFrames, Answer, captured, refused, too_many_frames, IsAnswer}
+use Rattle.capture_terms.specs.declared.capture.CaptureFault.TheVariants as fault
 use Rattle.capture_terms.specs.declared.capture.Endianness.{Endianness}
 use Rattle.capture_terms.specs.declared.capture.Endianness.TheVariants.{Little, Big}
 use Rattle.capture_terms.specs.declared.capture.Frame.{Frame}
@@ -96,38 +97,38 @@ same_contents bytes one two h k =
 -- two right answers are the same
 pub same_answer : (bytes : List ℕ) (one two : Answer) → IsAnswer bytes one → IsAnswer bytes two → one ≡ two
 same_answer bytes (captured a) (captured b) h k = ap captured (same_contents bytes a b h k)
-same_answer bytes (captured a) (bad_header q) h k = absurd (has_no_header bytes q k h.order h.before.header.long h.before.header.magic)
-same_answer bytes (captured a) other_version h k = absurd (has_no_version bytes k h.order h.before.header)
-same_answer bytes (captured a) (other_link q) h k = absurd (has_no_link bytes q k h.order h.before.header h.before.accepted)
-same_answer bytes (captured a) (long_record q) h k = absurd (captured_not_long bytes a q h k)
+same_answer bytes (captured a) (refused (fault.Header q)) h k = absurd (has_no_header bytes q k h.order h.before.header.long h.before.header.magic)
+same_answer bytes (captured a) (refused fault.Version) h k = absurd (has_no_version bytes k h.order h.before.header)
+same_answer bytes (captured a) (refused (fault.Link q)) h k = absurd (has_no_link bytes q k h.order h.before.header h.before.accepted)
+same_answer bytes (captured a) (refused (fault.Record q)) h k = absurd (captured_not_long bytes a q h k)
 same_answer bytes (captured a) too_many_frames h k = absurd (captured_not_too_many bytes a h k)
-same_answer bytes (bad_header p) (captured b) h k = absurd (has_no_header bytes p h k.order k.before.header.long k.before.header.magic)
-same_answer bytes (bad_header p) (bad_header q) h k = ap bad_header (same_bad_header bytes p q h k)
-same_answer bytes (bad_header p) other_version h k = absurd (has_no_header bytes p h k.order k.long k.magic)
-same_answer bytes (bad_header p) (other_link q) h k = absurd (has_no_header bytes p h k.order k.header.long k.header.magic)
-same_answer bytes (bad_header p) (long_record q) h k = absurd (has_no_header bytes p h k.order k.before.header.long k.before.header.magic)
-same_answer bytes (bad_header p) too_many_frames h k = absurd (has_no_header bytes p h k.order k.before.header.long k.before.header.magic)
-same_answer bytes other_version (captured b) h k = absurd (has_no_version bytes h k.order k.before.header)
-same_answer bytes other_version (bad_header q) h k = absurd (has_no_header bytes q k h.order h.long h.magic)
-same_answer bytes other_version other_version h k = refl
-same_answer bytes other_version (other_link q) h k = absurd (has_no_version bytes h k.order k.header)
-same_answer bytes other_version (long_record q) h k = absurd (has_no_version bytes h k.order k.before.header)
-same_answer bytes other_version too_many_frames h k = absurd (has_no_version bytes h k.order k.before.header)
-same_answer bytes (other_link p) (captured b) h k = absurd (has_no_link bytes p h k.order k.before.header k.before.accepted)
-same_answer bytes (other_link p) (bad_header q) h k = absurd (has_no_header bytes q k h.order h.header.long h.header.magic)
-same_answer bytes (other_link p) other_version h k = absurd (has_no_version bytes k h.order h.header)
-same_answer bytes (other_link p) (other_link q) h k = ap other_link (same_link bytes p q h k)
-same_answer bytes (other_link p) (long_record q) h k = absurd (has_no_link bytes p h k.order k.before.header k.before.accepted)
-same_answer bytes (other_link p) too_many_frames h k = absurd (has_no_link bytes p h k.order k.before.header k.before.accepted)
-same_answer bytes (long_record p) (captured b) h k = absurd (captured_not_long bytes b p k h)
-same_answer bytes (long_record p) (bad_header q) h k = absurd (has_no_header bytes q k h.order h.before.header.long h.before.header.magic)
-same_answer bytes (long_record p) other_version h k = absurd (has_no_version bytes k h.order h.before.header)
-same_answer bytes (long_record p) (other_link q) h k = absurd (has_no_link bytes q k h.order h.before.header h.before.accepted)
-same_answer bytes (long_record p) (long_record q) h k = ap long_record (same_long bytes p q h k)
-same_answer bytes (long_record p) too_many_frames h k = absurd (long_not_too_many bytes p h k)
+same_answer bytes (refused (fault.Header p)) (captured b) h k = absurd (has_no_header bytes p h k.order k.before.header.long k.before.header.magic)
+same_answer bytes (refused (fault.Header p)) (refused (fault.Header q)) h k = ap (λ (n : ℕ). refused (fault.Header n)) (same_bad_header bytes p q h k)
+same_answer bytes (refused (fault.Header p)) (refused fault.Version) h k = absurd (has_no_header bytes p h k.order k.long k.magic)
+same_answer bytes (refused (fault.Header p)) (refused (fault.Link q)) h k = absurd (has_no_header bytes p h k.order k.header.long k.header.magic)
+same_answer bytes (refused (fault.Header p)) (refused (fault.Record q)) h k = absurd (has_no_header bytes p h k.order k.before.header.long k.before.header.magic)
+same_answer bytes (refused (fault.Header p)) too_many_frames h k = absurd (has_no_header bytes p h k.order k.before.header.long k.before.header.magic)
+same_answer bytes (refused fault.Version) (captured b) h k = absurd (has_no_version bytes h k.order k.before.header)
+same_answer bytes (refused fault.Version) (refused (fault.Header q)) h k = absurd (has_no_header bytes q k h.order h.long h.magic)
+same_answer bytes (refused fault.Version) (refused fault.Version) h k = refl
+same_answer bytes (refused fault.Version) (refused (fault.Link q)) h k = absurd (has_no_version bytes h k.order k.header)
+same_answer bytes (refused fault.Version) (refused (fault.Record q)) h k = absurd (has_no_version bytes h k.order k.before.header)
+same_answer bytes (refused fault.Version) too_many_frames h k = absurd (has_no_version bytes h k.order k.before.header)
+same_answer bytes (refused (fault.Link p)) (captured b) h k = absurd (has_no_link bytes p h k.order k.before.header k.before.accepted)
+same_answer bytes (refused (fault.Link p)) (refused (fault.Header q)) h k = absurd (has_no_header bytes q k h.order h.header.long h.header.magic)
+same_answer bytes (refused (fault.Link p)) (refused fault.Version) h k = absurd (has_no_version bytes k h.order h.header)
+same_answer bytes (refused (fault.Link p)) (refused (fault.Link q)) h k = ap (λ (n : ℕ). refused (fault.Link n)) (same_link bytes p q h k)
+same_answer bytes (refused (fault.Link p)) (refused (fault.Record q)) h k = absurd (has_no_link bytes p h k.order k.before.header k.before.accepted)
+same_answer bytes (refused (fault.Link p)) too_many_frames h k = absurd (has_no_link bytes p h k.order k.before.header k.before.accepted)
+same_answer bytes (refused (fault.Record p)) (captured b) h k = absurd (captured_not_long bytes b p k h)
+same_answer bytes (refused (fault.Record p)) (refused (fault.Header q)) h k = absurd (has_no_header bytes q k h.order h.before.header.long h.before.header.magic)
+same_answer bytes (refused (fault.Record p)) (refused fault.Version) h k = absurd (has_no_version bytes k h.order h.before.header)
+same_answer bytes (refused (fault.Record p)) (refused (fault.Link q)) h k = absurd (has_no_link bytes q k h.order h.before.header h.before.accepted)
+same_answer bytes (refused (fault.Record p)) (refused (fault.Record q)) h k = ap (λ (n : ℕ). refused (fault.Record n)) (same_long bytes p q h k)
+same_answer bytes (refused (fault.Record p)) too_many_frames h k = absurd (long_not_too_many bytes p h k)
 same_answer bytes too_many_frames (captured b) h k = absurd (captured_not_too_many bytes b k h)
-same_answer bytes too_many_frames (bad_header q) h k = absurd (has_no_header bytes q k h.order h.before.header.long h.before.header.magic)
-same_answer bytes too_many_frames other_version h k = absurd (has_no_version bytes k h.order h.before.header)
-same_answer bytes too_many_frames (other_link q) h k = absurd (has_no_link bytes q k h.order h.before.header h.before.accepted)
-same_answer bytes too_many_frames (long_record q) h k = absurd (long_not_too_many bytes q k h)
+same_answer bytes too_many_frames (refused (fault.Header q)) h k = absurd (has_no_header bytes q k h.order h.before.header.long h.before.header.magic)
+same_answer bytes too_many_frames (refused fault.Version) h k = absurd (has_no_version bytes k h.order h.before.header)
+same_answer bytes too_many_frames (refused (fault.Link q)) h k = absurd (has_no_link bytes q k h.order h.before.header h.before.accepted)
+same_answer bytes too_many_frames (refused (fault.Record q)) h k = absurd (long_not_too_many bytes q k h)
 same_answer bytes too_many_frames too_many_frames h k = refl

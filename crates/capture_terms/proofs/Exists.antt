@@ -3,7 +3,8 @@ use Rattle.std.proofs.Common.{◌≡◌, ℕ, zero, suc, ◌+◌, ◌-◌, ◌�
 use Rattle.std.specs.Prelude.{IsSome}
 use Rattle.std.proofs.lemmas.Bool.{cases_lt, cases_eq}
 use Rattle.capture_terms.specs.Numbers.{number16, number32}
-use Rattle.capture_terms.specs.Capture.{HasMagic, HasVersion, IsHeader, IsAcceptedLink, link_numbered, link_of, captured_length, frame_at, IsRecord, AreRecords, IsLongRecord, IsTail, HasFrames, Answer, captured, bad_header, other_version, other_link, long_record, too_many_frames, IsAnswer}
+use Rattle.capture_terms.specs.Capture.{HasMagic, HasVersion, IsHeader, IsAcceptedLink, link_numbered, link_of, captured_length, frame_at, IsRecord, AreRecords, IsLongRecord, IsTail, HasFrames, Answer, captured, refused, too_many_frames, IsAnswer}
+use Rattle.capture_terms.specs.declared.capture.CaptureFault.TheVariants as fault
 use Rattle.capture_terms.specs.declared.capture.Endianness.{Endianness}
 use Rattle.capture_terms.specs.declared.capture.Endianness.TheVariants.{Little, Big}
 use Rattle.capture_terms.specs.declared.capture.Frame.{Frame}
@@ -63,7 +64,7 @@ answer_from bytes order header accepted count is walked = by_stop walked.stop
     before = record { header = header; accepted = accepted; records = walked.records; few = omega (arith, walked.few) }
 
     by_stop : Stop order bytes walked.end (count - length walked.frames) → (answer : Answer) × IsAnswer bytes answer
-    by_stop (stop_long long) = (long_record walked.end, record { order = order; frames = walked.frames; before = before; long = long })
+    by_stop (stop_long long) = (refused (fault.Record walked.end), record { order = order; frames = walked.frames; before = before; long = long })
     by_stop (stop_tail torn tail) = (captured record { nanos = false; link = link_of order bytes; frames = walked.frames; torn = torn }, record { order = order; end = walked.end; before = before; tail = tail; link = refl; microseconds = refl })
     by_stop (stop_many none next more) = (too_many_frames, record { order = order; frames = walked.frames; end = walked.end; next = next; before = before; many = omega (arith, walked.few); more = more })
 
@@ -89,20 +90,20 @@ answer_in bytes order long magic = elim (cases_version order bytes) [
       let header : IsHeader order bytes = record { long = long; magic = magic; version = version } in
       elim (cases_link (link_of order bytes)) [
         | inl accepted ↦ answer_from bytes order header accepted 262144 refl (walk 262144 order bytes 24 long)
-        | inr other ↦ (other_link (link_of order bytes), record { order = order; header = header; network = refl; other = other })
+        | inr other ↦ (refused (fault.Link (link_of order bytes)), record { order = order; header = header; network = refl; other = other })
       ]
-  | inr other ↦ (other_version, record { order = order; long = long; magic = magic; other = other })
+  | inr other ↦ (refused fault.Version, record { order = order; long = long; magic = magic; other = other })
 ]
 
 -- some answer is right
 pub right_answer : (bytes : List ℕ) → (answer : Answer) × IsAnswer bytes answer
 right_answer bytes = elim (cases_lt (length bytes) 24) [
-  | inl short ↦ (bad_header (length bytes), inl record { short = short; place = refl })
+  | inl short ↦ (refused (fault.Header (length bytes)), inl record { short = short; place = refl })
   | inr long ↦ elim (cases_eq (number32 Little bytes 0) 0xa1b2c3d4) [
     | inl magic ↦ answer_in bytes Little long magic
     | inr little ↦ elim (cases_eq (number32 Big bytes 0) 0xa1b2c3d4) [
       | inl magic ↦ answer_in bytes Big long magic
-      | inr big ↦ (bad_header 0, inr record { long = long; little = little; big = big; place = refl })
+      | inr big ↦ (refused (fault.Header 0), inr record { long = long; little = little; big = big; place = refl })
     ]
   ]
 ]

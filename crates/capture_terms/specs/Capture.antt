@@ -9,6 +9,8 @@ use Rattle.capture_terms.specs.declared.capture.Frame.{Frame}
 use Rattle.capture_terms.specs.declared.capture.Link.{Link}
 use Rattle.capture_terms.specs.declared.capture.Link.TheVariants.{Ethernet, Raw}
 use Rattle.capture_terms.specs.declared.capture.Capture.{Capture}
+use Rattle.capture_terms.specs.declared.capture.CaptureFault.{CaptureFault}
+use Rattle.capture_terms.specs.declared.capture.CaptureFault.TheVariants as fault
 
 -- The file header.
 
@@ -163,22 +165,23 @@ pub record HasTooManyFrames (bytes : List ℕ) : Type 0 where
   pub many : length frames ≡ 262144
   pub more : IsRecord order bytes end next
 
+-- the file breaks the format in this way, and in no way that comes before it
+abbrev pub HasFault : List ℕ → CaptureFault → Type 0
+HasFault bytes (fault.Header at) = HasShortHeader bytes at ⊎ HasOtherMagic bytes at
+HasFault bytes fault.Version = HasOtherVersion bytes
+HasFault bytes (fault.Link number) = HasOtherLink bytes number
+HasFault bytes (fault.Record at) = HasLongRecord bytes at
+
 -- what a reader answers about a file
 pub data Answer : Type 0 where
   captured : Contents → Answer
-  bad_header : ℕ → Answer
-  other_version : Answer
-  other_link : ℕ → Answer
-  long_record : ℕ → Answer
+  refused : CaptureFault → Answer
   too_many_frames : Answer
 
 -- the answer is the right one. Each file has exactly one: no two of these hold of one file.
 abbrev pub IsAnswer : List ℕ → Answer → Type 0
 IsAnswer bytes (captured contents) = Says bytes contents
-IsAnswer bytes (bad_header at) = HasShortHeader bytes at ⊎ HasOtherMagic bytes at
-IsAnswer bytes other_version = HasOtherVersion bytes
-IsAnswer bytes (other_link link) = HasOtherLink bytes link
-IsAnswer bytes (long_record at) = HasLongRecord bytes at
+IsAnswer bytes (refused fault) = HasFault bytes fault
 IsAnswer bytes too_many_frames = HasTooManyFrames bytes
 
 -- The bytes of a frame.

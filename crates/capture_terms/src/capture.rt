@@ -59,3 +59,16 @@ pub struct Capture {
     /// How many bytes after the last whole record belong to no frame.
     pub torn: u64,
 }
+
+/// Where a capture file breaks its format. Places are counted in bytes from 0.
+#[derive(Clone, Copy, Debug, PartialEq, Eq)]
+pub enum CaptureFault {
+    /// The file header is too short, or its magic number is none of those known.
+    Header { at: u64 },
+    /// The version isn't 2.4.
+    Version,
+    /// The link type is none of those accepted.
+    Link { number: u16 },
+    /// The record says that more than 262,144 bytes were captured.
+    Record { at: u64 },
+}

@@ -12,7 +12,7 @@ mod datagram_laws;
 mod group_laws;
 mod plan;
 
-pub use capture::{Capture, Endianness, Frame, Link};
+pub use capture::{Capture, CaptureFault, Endianness, Frame, Link};
 pub use capture_laws::{frames_lie_within, one_answer, some_answer};
 pub use datagram::{Class, Header, Kind, Piece};
 pub use datagram_laws::{datagram_law, numbers_law, packing_law, task_law};

@@ -3,8 +3,8 @@ use Rattle.std.specs.Prelude.{ℕ, List, [], ◌∷◌, ◌++◌, codes}
 use Rattle.std.specs.Fmt.{decimal}
 use Rattle.report.specs.declared.fault.Fault.{Fault}
 use Rattle.report.specs.declared.fault.Fault.TheVariants.{Usage, Read, Write, Rules, Capture, LimitFile, LimitFrames, LimitRules, LimitFindings, Unbuilt, Memory}
-use Rattle.report.specs.declared.fault.CaptureFault.{CaptureFault}
-use Rattle.report.specs.declared.fault.CaptureFault.TheVariants.{Header, Version, Link, Record}
+use Rattle.capture_terms.specs.declared.capture.CaptureFault.{CaptureFault}
+use Rattle.capture_terms.specs.declared.capture.CaptureFault.TheVariants.{Header, Version, Link, Record}
 use Rattle.report.specs.declared.fault.Detail.{Detail}
 use Rattle.report.specs.declared.fault.Detail.TheVariants.{Text, Number}
 

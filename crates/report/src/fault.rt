@@ -1,3 +1,5 @@
+use capture_terms::CaptureFault;
+
 /// Why a run ended without writing all of its output.
 #[derive(Clone, Copy, Debug)]
 pub enum Fault<'a> {
@@ -23,19 +25,6 @@ pub enum Fault<'a> {
     Unbuilt(&'a str),
     /// Memory ran out.
     Memory,
-}
-
-/// Where a capture file breaks its format. Places are counted in bytes from 0.
-#[derive(Clone, Copy, Debug)]
-pub enum CaptureFault {
-    /// The file header is too short, or its magic number is none of those known.
-    Header { at: u64 },
-    /// The version isn't 2.4.
-    Version,
-    /// The link type is none of those accepted.
-    Link { number: u16 },
-    /// The record says that more than 262,144 bytes were captured.
-    Record { at: u64 },
 }
 
 /// The part of a fault's line that differs from one fault of its kind to another.

@@ -3,8 +3,9 @@ ghost use Rattle.std.specs.Prelude.{◌≡◌, ◌≤◌, ◌++◌, OnOk, OnErr}
 ghost use Rattle.byte_ends.specs.Told.{Rose, Grows, GrowsByPrefix};
 ghost use Rattle.report.specs.FaultLine.{fault_line, capture_words, detail_bytes};
 
-use crate::fault::{CaptureFault, Detail, Fault};
+use crate::fault::{Detail, Fault};
 use byte_ends::{Failed, Sink, write_all};
+use capture_terms::CaptureFault;
 use itoa::Buffer;
 
 const USAGE: &[u8] =

@@ -5,7 +5,8 @@ mod fault;
 mod fault_line;
 mod report_lines;
 
-pub use fault::{CaptureFault, Fault};
+pub use capture_terms::CaptureFault;
+pub use fault::Fault;
 pub use fault_line::write_fault;
 pub use report_lines::report_text;
 

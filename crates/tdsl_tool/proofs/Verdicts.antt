@@ -1,7 +1,7 @@
 -- What the parts of a run find, put together.
 use Rattle.std.proofs.Common.{◌≡◌, ◌≢◌, ℕ, ◌≤◌, List, length, Some, refl, subst}
 use Rattle.byte_ends.specs.Told.{IfTold}
-use Rattle.capture_terms.specs.Capture.{Answer, captured, bad_header, other_version, other_link, long_record, too_many_frames, IsAnswer}
+use Rattle.capture_terms.specs.Capture.{Answer, captured, refused, too_many_frames, IsAnswer}
 use Rattle.rule_terms.specs.Rule.{Rule}
 use Rattle.tdsl_tool.specs.Words.{Names}
 use Rattle.tdsl_tool.specs.Verdict.{max_file, Verdict, bad_capture, IsVerdictUnder, answer_is, IsRuleFile, rules_are}
@@ -17,10 +17,7 @@ IsRefusal answer = Unit {0}
 -- a refused capture file comes to its refusal
 pub refused_under : (rules : List Rule) (bytes : List ℕ) (answer : Answer) → IsRefusal answer → length bytes ≤ max_file → IsAnswer bytes answer → IsVerdictUnder rules bytes (bad_capture answer)
 refused_under rules bytes (captured contents) never short right = absurd never
-refused_under rules bytes (bad_header at) is short right = record { capture = answer_is (bad_header at); capture_is = (short, right); comes_to = refl }
-refused_under rules bytes other_version is short right = record { capture = answer_is other_version; capture_is = (short, right); comes_to = refl }
-refused_under rules bytes (other_link link) is short right = record { capture = answer_is (other_link link); capture_is = (short, right); comes_to = refl }
-refused_under rules bytes (long_record at) is short right = record { capture = answer_is (long_record at); capture_is = (short, right); comes_to = refl }
+refused_under rules bytes (refused fault) is short right = record { capture = answer_is (refused fault); capture_is = (short, right); comes_to = refl }
 refused_under rules bytes too_many_frames is short right = record { capture = answer_is too_many_frames; capture_is = (short, right); comes_to = refl }
 
 module _ (reading : Reading) (rules : List Rule) (are : IfRulesTold reading (λ text. IsRuleFile text (rules_are rules))) where

@@ -2,7 +2,8 @@
 use Rattle.std.specs.Prelude.{◌≡◌, ◌≢◌, ◌⊎◌, ◌↔◌, ℕ, List, [], ◌∷◌, ◌++◌, Option, Some, None, codes}
 use Rattle.std.specs.Fmt.{decimal}
 use Rattle.byte_ends.specs.Told.{Rose, IfTold, Grows, GrowsByPrefix}
-use Rattle.capture_terms.specs.Capture.{bad_header, other_version, other_link, long_record, too_many_frames}
+use Rattle.capture_terms.specs.Capture.{refused, too_many_frames}
+use Rattle.capture_terms.specs.declared.capture.CaptureFault.TheVariants as broken
 use Rattle.rule_terms.specs.Rule.{Rule}
 use Rattle.tdsl_tool.specs.Words.{Names, names_in}
 use Rattle.tdsl_tool.specs.Verdict.{Verdict, capture_too_long, bad_capture, too_many_findings, reports, IsVerdict, IsVerdictUnder, IsRuleFile, long_rules, no_rules, rules_are, verdict_status}
@@ -54,10 +55,10 @@ IsReport reading text = ComesTo reading (reports text)
 
 -- why rules and a capture file give no report
 abbrev pub StopsUnder : List Rule → List ℕ → Ending → Type 0
-StopsUnder rules bytes (BadHeader at) = IsVerdictUnder rules bytes (bad_capture (bad_header at))
-StopsUnder rules bytes OtherVersion = IsVerdictUnder rules bytes (bad_capture other_version)
-StopsUnder rules bytes (OtherLink number) = IsVerdictUnder rules bytes (bad_capture (other_link number))
-StopsUnder rules bytes (LongRecord at) = IsVerdictUnder rules bytes (bad_capture (long_record at))
+StopsUnder rules bytes (BadHeader at) = IsVerdictUnder rules bytes (bad_capture (refused (broken.Header at)))
+StopsUnder rules bytes OtherVersion = IsVerdictUnder rules bytes (bad_capture (refused broken.Version))
+StopsUnder rules bytes (OtherLink number) = IsVerdictUnder rules bytes (bad_capture (refused (broken.Link number)))
+StopsUnder rules bytes (LongRecord at) = IsVerdictUnder rules bytes (bad_capture (refused (broken.Record at)))
 StopsUnder rules bytes TooManyFrames = IsVerdictUnder rules bytes (bad_capture too_many_frames)
 StopsUnder rules bytes TooManyFindings = IsVerdictUnder rules bytes too_many_findings
 StopsUnder rules bytes Memory = Unit {0}
@@ -78,10 +79,10 @@ StopsAt reading RulesTooLong = IfRulesTold reading (λ text. IsRuleFile text lon
 StopsAt reading RulesUnbuilt = IfRulesTold reading (λ text. IsRuleFile text no_rules)
 StopsAt reading ReadCapture = FailedFor reading reading.names.capture × IfRulesTold reading AreRules
 StopsAt reading CaptureTooLong = ComesTo reading capture_too_long
-StopsAt reading (BadHeader at) = ComesTo reading (bad_capture (bad_header at))
-StopsAt reading OtherVersion = ComesTo reading (bad_capture other_version)
-StopsAt reading (OtherLink number) = ComesTo reading (bad_capture (other_link number))
-StopsAt reading (LongRecord at) = ComesTo reading (bad_capture (long_record at))
+StopsAt reading (BadHeader at) = ComesTo reading (bad_capture (refused (broken.Header at)))
+StopsAt reading OtherVersion = ComesTo reading (bad_capture (refused broken.Version))
+StopsAt reading (OtherLink number) = ComesTo reading (bad_capture (refused (broken.Link number)))
+StopsAt reading (LongRecord at) = ComesTo reading (bad_capture (refused (broken.Record at)))
 StopsAt reading TooManyFrames = ComesTo reading (bad_capture too_many_frames)
 StopsAt reading TooManyFindings = ComesTo reading too_many_findings
 StopsAt reading Memory = Unit {0}

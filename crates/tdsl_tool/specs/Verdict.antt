@@ -1,6 +1,6 @@
 -- What a rule file and a capture file come to, as their bytes tell.
 use Rattle.std.specs.Prelude.{◌≡◌, ℕ, ◌<◌, ◌≤◌, nat_lt, List, length, if◌then◌else◌}
-use Rattle.capture_terms.specs.Capture.{Answer, captured, bad_header, other_version, other_link, long_record, too_many_frames, IsAnswer, Contents}
+use Rattle.capture_terms.specs.Capture.{Answer, captured, refused, too_many_frames, IsAnswer, Contents}
 use Rattle.rule_terms.specs.Rule.{Rule}
 use Rattle.rule_terms.specs.RuleText.{IsRuleText}
 use Rattle.inspection_terms.specs.Findings.{findings_of_capture}
@@ -54,10 +54,7 @@ verdict_under rules bytes contents =
 abbrev pub verdict_at : List Rule → List ℕ → CaptureFile → Verdict
 verdict_at rules bytes long_capture = capture_too_long
 verdict_at rules bytes (answer_is (captured contents)) = verdict_under rules bytes contents
-verdict_at rules bytes (answer_is (bad_header at)) = bad_capture (bad_header at)
-verdict_at rules bytes (answer_is other_version) = bad_capture other_version
-verdict_at rules bytes (answer_is (other_link link)) = bad_capture (other_link link)
-verdict_at rules bytes (answer_is (long_record at)) = bad_capture (long_record at)
+verdict_at rules bytes (answer_is (refused fault)) = bad_capture (refused fault)
 verdict_at rules bytes (answer_is too_many_frames) = bad_capture too_many_frames
 
 -- these rules and a capture file of these bytes come to this
@@ -86,10 +83,7 @@ verdict_status rules_too_long = 6
 verdict_status rules_unbuilt = 8
 verdict_status capture_too_long = 6
 verdict_status (bad_capture (captured contents)) = 5
-verdict_status (bad_capture (bad_header at)) = 5
-verdict_status (bad_capture other_version) = 5
-verdict_status (bad_capture (other_link link)) = 5
-verdict_status (bad_capture (long_record at)) = 5
+verdict_status (bad_capture (refused fault)) = 5
 verdict_status (bad_capture too_many_frames) = 6
 verdict_status too_many_findings = 6
 verdict_status (reports text) = 0
