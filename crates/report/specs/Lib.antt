@@ -1,2 +1,2 @@
 pub mod Report
-pub mod FaultLine
+pub mod Fault

@@ -1,3 +1,6 @@
+ghost use Rattle.std.specs.Prelude.{◌≡◌};
+ghost use Rattle.report.specs.Fault.{cause_of, status_of};
+
 use capture_terms::CaptureFault;
 
 /// Why a run ended without writing all of its output.
@@ -25,6 +28,25 @@ pub enum Fault<'a> {
     Unbuilt(&'a str),
     /// Memory ran out.
     Memory,
+}
+
+impl Fault<'_> {
+    /// The status that the program ends with.
+    pub fn status(&self) -> u8
+        ensures { result ≡ status_of (cause_of self.now) }
+    {
+        match self {
+            Fault::Usage => 1,
+            Fault::Read(_) => 2,
+            Fault::Write => 3,
+            Fault::Rules { .. } => 4,
+            Fault::Capture(_) => 5,
+            Fault::LimitFile(_) | Fault::LimitFrames | Fault::LimitRules | Fault::LimitFindings =>
+                6,
+            Fault::Memory => 7,
+            Fault::Unbuilt(_) => 8,
+        }
+    }
 }
 
 /// The part of a fault's line that differs from one fault of its kind to another.

@@ -1,7 +1,7 @@
 // The line of a fault, in pieces, so that it takes no memory.
 ghost use Rattle.std.specs.Prelude.{◌≡◌, ◌≤◌, ◌++◌, OnOk, OnErr};
 ghost use Rattle.byte_ends.specs.Told.{Rose, Grows, GrowsByPrefix};
-ghost use Rattle.report.specs.FaultLine.{fault_line, capture_words, detail_bytes};
+ghost use Rattle.report.specs.Fault.{cause_of, line_of, detail_bytes};
 
 use crate::fault::{Detail, Fault};
 use byte_ends::{Failed, Sink, write_all};
@@ -15,8 +15,8 @@ const USAGE: &[u8] =
 ///
 /// `Failed`: a call on the sink failed, so its count rose, and a prefix of the line was appended.
 pub fn write_fault<E: Sink>(sink: &mut E, fault: &Fault<'_>) -> Result<(), Failed>
-    ensures line { OnOk result (Grows (E.written sink.old) (E.written sink.new) (fault_line fault.now)) }
-    ensures prefix { OnErr result (GrowsByPrefix (E.written sink.old) (E.written sink.new) (fault_line fault.now)) }
+    ensures line { OnOk result (Grows (E.written sink.old) (E.written sink.new) (line_of (cause_of fault.now))) }
+    ensures prefix { OnErr result (GrowsByPrefix (E.written sink.old) (E.written sink.new) (line_of (cause_of fault.now))) }
     ensures counts { E.faults sink.old ≤ E.faults sink.new }
     ensures cause { OnErr result (Rose (E.faults sink.old) (E.faults sink.new)) }
 {
@@ -42,7 +42,7 @@ fn write_detail<E: Sink>(sink: &mut E, detail: Detail<'_>) -> Result<(), Failed>
 }
 
 fn parts_of<'a>(fault: &Fault<'a>) -> (&'static [u8], Detail<'a>, &'static [u8])
-    ensures { result.0.now ++ detail_bytes result.1 ++ result.2.now ≡ fault_line fault.now }
+    ensures { result.0.now ++ detail_bytes result.1 ++ result.2.now ≡ line_of (cause_of fault.now) }
 {
     match *fault {
         Fault::Usage => (USAGE, Detail::Text(b""), b"\n"),

@@ -3,11 +3,13 @@
 
 mod fault;
 mod fault_line;
+mod finding;
 mod report_lines;
 
 pub use capture_terms::CaptureFault;
 pub use fault::Fault;
 pub use fault_line::write_fault;
+pub use finding::Finding;
 pub use report_lines::report_text;
 
 #[cfg(test)]

@@ -6,6 +6,7 @@ ghost use Rattle.capture_terms.specs.Capture.{contents_of};
 ghost use Rattle.report.specs.Report.{text_of, ended, frames_of, counts_of, count_line, finding_line, report_lines};
 ghost use Rattle.report.specs.Report as spec;
 
+use crate::finding::Finding;
 use capture_terms::{Capture, Class, Plan};
 use itoa::Buffer;
 use rule_matcher::Rules;
@@ -15,7 +16,7 @@ use std::alloc::{AllocError, Global};
 /// order in which they are given.
 ///
 /// `incomplete` is the number of groups that are no whole datagram, at most that of all groups. A
-/// finding is the number `frame * 2^32 + rule * 2^16 + place`, and its rule is one of `rules`.
+/// finding is its `Finding::number`, and its rule is one of `rules`.
 pub fn report_text(
     alloc: Global,
     capture: &Capture,
@@ -112,12 +113,13 @@ fn push_finding(text: &mut Vec<u8>, rules: &Rules, finding: u64) -> Result<(), A
     requires { spec.rule_of finding < length rules.now }
     ensures { OnOk result (text.new.items ≡ text.old.items ++ ended (finding_line rules.now finding)) }
 {
+    let Finding { frame, rule, place } = Finding::of(finding);
     text.extend_from_slice(b"finding ")?;
-    push_number(text, finding / 4_294_967_296)?;
+    push_number(text, u64::from(frame))?;
     text.push(b' ')?;
-    text.extend_from_slice(rules.name((finding / 65_536 % 65_536) as u16))?;
+    text.extend_from_slice(rules.name(rule))?;
     text.push(b' ')?;
-    push_number(text, finding % 65_536)?;
+    push_number(text, u64::from(place))?;
     text.push(b'\n')?;
     Ok(())
 }

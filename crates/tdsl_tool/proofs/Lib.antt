@@ -2,8 +2,8 @@ pub mod Verdicts
 pub mod Planned
 pub mod Reported
 pub mod OneVerdict
-pub mod Ran
 pub mod FindingNumbers
 pub mod MemberSteps
 pub mod IncompleteGroups
 pub mod FindingSteps
+pub mod Ran

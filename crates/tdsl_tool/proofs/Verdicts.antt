@@ -1,58 +1,69 @@
 -- What the parts of a run find, put together.
-use Rattle.std.proofs.Common.{◌≡◌, ◌≢◌, ℕ, ◌≤◌, List, length, Some, refl, subst}
-use Rattle.byte_ends.specs.Told.{IfTold}
-use Rattle.capture_terms.specs.Capture.{Answer, captured, refused, too_many_frames, IsAnswer}
+use Rattle.std.proofs.Common.{◌≡◌, ◌⊎◌, inl, inr, ℕ, ◌<◌, ◌≤◌, List, length, Option, Some, refl, sym, subst, arith}
+use Rattle.std.specs.Prelude.{IfSome}
+use Rattle.byte_ends.specs.Told.{Rose, IfTold}
+use Rattle.capture_terms.specs.Capture.{Answer, captured, IsAnswer}
 use Rattle.rule_terms.specs.Rule.{Rule}
-use Rattle.tdsl_tool.specs.Words.{Names}
-use Rattle.tdsl_tool.specs.Verdict.{max_file, Verdict, bad_capture, IsVerdictUnder, answer_is, IsRuleFile, rules_are}
-use Rattle.tdsl_tool.specs.Run.{Writing, Tells, TellsLine, words_of, Reading, IfRulesTold, ComesTo, StopsAt, StopsUnder}
-use Rattle.tdsl_tool.specs.declared.ending.Ending.{Ending}
-use Rattle.tdsl_tool.specs.declared.ending.Ending.TheVariants.{Reported, NotWritten, ReadRules, ReadCapture, RulesTooLong, RulesUnbuilt, CaptureTooLong, BadHeader, OtherVersion, OtherLink, LongRecord, TooManyFrames, TooManyFindings, Memory}
+use Rattle.report.specs.Fault.{Cause, no_command, unread, unwritten, bad_line, bad_capture, long_file, many_frames, many_rules, many_findings, unbuilt, no_memory}
+use Rattle.tdsl_tool.specs.Verdict.{max_file, Verdict, stops, IsVerdictUnder, rules_are, some_rules, AreRules, CaptureFile, capture_is, capture_refused, file_of}
+use Rattle.tdsl_tool.specs.Run.{Source, HasFailed, Reading, IfRulesTold, ComesTo, StopsReading, StopsAtRules, StopsAtCapture, StopsUnder}
 
--- the answer is no capture
-abbrev pub IsRefusal : Answer → Type 0
-IsRefusal (captured contents) = ⊥
-IsRefusal answer = Unit {0}
+-- a capture file whose answer is a refusal comes to it
+pub refused_under : (most : ℕ) (rules : List Rule) (name bytes : List ℕ) (told : Option Answer) (answer : Answer) (cause : Cause) → told ≡ Some answer → file_of answer ≡ capture_refused cause → length bytes ≤ max_file → IfSome told (IsAnswer bytes) → IsVerdictUnder most rules name bytes (stops cause)
+refused_under most rules name bytes told answer cause same is short right = record {
+  capture = capture_refused cause;
+  capture_is = inr (answer, record { short = short; right = subst (λ (o : Option Answer). IfSome o (IsAnswer bytes)) same right }, sym is);
+  comes_to = refl;
+}
 
--- a refused capture file comes to its refusal
-pub refused_under : (rules : List Rule) (bytes : List ℕ) (answer : Answer) → IsRefusal answer → length bytes ≤ max_file → IsAnswer bytes answer → IsVerdictUnder rules bytes (bad_capture answer)
-refused_under rules bytes (captured contents) never short right = absurd never
-refused_under rules bytes (refused fault) is short right = record { capture = answer_is (refused fault); capture_is = (short, right); comes_to = refl }
-refused_under rules bytes too_many_frames is short right = record { capture = answer_is too_many_frames; capture_is = (short, right); comes_to = refl }
+-- a file that gave no bytes gives no rules
+pub stops_at_rules : (file : Source) (cause : Cause) → StopsReading file cause → StopsAtRules file cause
+stops_at_rules file (unbuilt what) why = absurd why
+stops_at_rules file cause why = why
 
-module _ (reading : Reading) (rules : List Rule) (are : IfRulesTold reading (λ text. IsRuleFile text (rules_are rules))) where
+module _ (of : Reading) (rules : List Rule) (are : IfRulesTold of (λ text. AreRules text rules)) where
   -- what rules and the capture file come to is what the two files come to
-  pub comes_to : (verdict : Verdict) → ((bytes : List ℕ) → reading.content reading.names.capture ≡ Some bytes → IsVerdictUnder rules bytes verdict) → ComesTo reading verdict
+  pub comes_to : (verdict : Verdict) → ((bytes : List ℕ) → of.capture.told ≡ Some bytes → IsVerdictUnder of.most rules of.capture.name bytes verdict) → ComesTo of verdict
   comes_to verdict under = record {
     rules = λ text told. (rules, are text told);
     verdict_is = λ text told bytes told'.
         let here = under bytes told' in
-        record { rules = rules_are rules; capture = here.capture; rules_are = are text told; capture_is = here.capture_is; comes_to = here.comes_to };
+        record { rules = rules_are rules; capture = here.capture; rules_is = inr (some_rules rules, are text told, refl); capture_is = here.capture_is; comes_to = here.comes_to };
   }
 
-  module _ (bytes : List ℕ) (whole : IfTold (reading.content reading.names.capture) (λ told. bytes ≡ told)) where
+  -- a capture file that gives no bytes
+  pub stops_unread : (file : Source) → file.name ≡ of.capture.name → file.told ≡ of.capture.told → (HasFailed file → HasFailed of.capture) → (cause : Cause) → StopsReading file cause → StopsAtCapture of cause
+  stops_unread file name told failed (unread n) why = (cc, failed why.1, λ text is. (rules, are text is))
+  stops_unread file name told failed (long_file n) why =
+      let same : n ≡ of.capture.name = cc in (
+        same,
+        comes_to _ (λ bytes is. record {
+          capture = capture_refused (long_file n);
+          capture_is = inl (why.1 bytes (cc), cc);
+          comes_to = refl;
+        }),
+      )
+  stops_unread file name told failed no_memory why = why
+  stops_unread file name told failed no_command why = absurd why
+  stops_unread file name told failed unwritten why = absurd why
+  stops_unread file name told failed (bad_line n) why = absurd why
+  stops_unread file name told failed (bad_capture n) why = absurd why
+  stops_unread file name told failed many_frames why = absurd why
+  stops_unread file name told failed many_rules why = absurd why
+  stops_unread file name told failed many_findings why = absurd why
+  stops_unread file name told failed (unbuilt n) why = absurd why
+
+  module _ (bytes : List ℕ) (whole : IfTold of.capture.told (λ told. bytes ≡ told)) where
     -- of bytes that are those of the file
-    pub comes_to_of : (verdict : Verdict) → IsVerdictUnder rules bytes verdict → ComesTo reading verdict
-    comes_to_of verdict under = comes_to verdict (λ told is. subst (λ (b : List ℕ). IsVerdictUnder rules b verdict) (whole told is) under)
+    pub comes_to_of : (verdict : Verdict) → IsVerdictUnder of.most rules of.capture.name bytes verdict → ComesTo of verdict
+    comes_to_of verdict under = comes_to verdict (λ told is. subst (λ (b : List ℕ). IsVerdictUnder of.most rules of.capture.name b verdict) (whole told is) under)
 
     -- an inspection that stops is a run that stops
-    pub stops_at : (ending : Ending) → StopsUnder rules bytes ending → StopsAt reading ending
-    stops_at Reported stops = absurd stops
-    stops_at NotWritten stops = absurd stops
-    stops_at ReadRules stops = absurd stops
-    stops_at ReadCapture stops = absurd stops
-    stops_at RulesTooLong stops = absurd stops
-    stops_at RulesUnbuilt stops = absurd stops
-    stops_at CaptureTooLong stops = absurd stops
-    stops_at (BadHeader at) stops = comes_to_of _ stops
-    stops_at OtherVersion stops = comes_to_of _ stops
-    stops_at (OtherLink number) stops = comes_to_of _ stops
-    stops_at (LongRecord at) stops = comes_to_of _ stops
-    stops_at TooManyFrames stops = comes_to_of _ stops
-    stops_at TooManyFindings stops = comes_to_of _ stops
-    stops_at Memory stops = stops
-
--- a line of an ending other than a whole report
-pub tells_line : (sink : Writing) (names : Names) (ending : Ending) (words : List ℕ) → ending ≢ Reported → words ≡ words_of names ending → TellsLine sink words → Tells sink names ending
-tells_line sink names Reported words other same line = absurd (other refl)
-tells_line sink names ending words other same line = subst (λ (w : List ℕ). TellsLine sink w) same line
+    pub stops_at : (cause : Cause) → StopsUnder of.most rules of.capture.name bytes cause → StopsAtCapture of cause
+    stops_at (bad_capture fault) why = comes_to_of _ why
+    stops_at many_frames why = comes_to_of _ why
+    stops_at many_findings why = comes_to_of _ why
+    stops_at no_memory why = why
+    stops_at (unread name) why = absurd why
+    stops_at (long_file name) why = absurd why
+    stops_at cause why = absurd why

@@ -1,4 +1,3 @@
-pub mod Words
 pub mod Inspection
 pub mod Members
 pub mod Verdict

@@ -1,93 +1,127 @@
--- What a rule file and a capture file come to, as their bytes tell.
-use Rattle.std.specs.Prelude.{◌≡◌, ℕ, ◌<◌, ◌≤◌, nat_lt, List, length, if◌then◌else◌}
+-- What a rule file and a capture file come to, as their bytes tell: a report, or the cause of a fault.
+use Rattle.std.specs.Prelude.{◌≡◌, ℕ, ◌<◌, ◌≤◌, ◌⊎◌, nat_lt, List, length, if◌then◌else◌, codes}
 use Rattle.capture_terms.specs.Capture.{Answer, captured, refused, too_many_frames, IsAnswer, Contents}
 use Rattle.rule_terms.specs.Rule.{Rule}
 use Rattle.rule_terms.specs.RuleText.{IsRuleText}
 use Rattle.inspection_terms.specs.Findings.{findings_of_capture}
+use Rattle.command_words.specs.Words.{Names}
+use Rattle.report.specs.Fault.{Cause, bad_capture, long_file, many_frames, many_findings, unbuilt, status_of}
 use Rattle.tdsl_tool.specs.Inspection.{report_of}
 
 -- the most bytes that a file may have: 64 MiB
 abbrev pub max_file : ℕ
 max_file = 67108864
 
--- the most findings that a report may have
-abbrev pub max_findings : ℕ
-max_findings = 65536
+-- The rule file.
 
--- what a rule file is
+-- what a rule text is: rules, or none
+pub data RulesAnswer : Type 0 where
+  some_rules : List Rule → RulesAnswer
+  no_rules : RulesAnswer
+
+abbrev pub IsRulesAnswer : List ℕ → RulesAnswer → Type 0
+IsRulesAnswer text (some_rules rules) = IsRuleText text rules
+IsRulesAnswer text no_rules = (rules : List Rule) → ¬ IsRuleText text rules
+
+-- what a rule file is: rules, or refused
 pub data RuleFile : Type 0 where
-  long_rules : RuleFile
-  no_rules : RuleFile
   rules_are : List Rule → RuleFile
+  rules_refused : Cause → RuleFile
 
-abbrev pub IsRuleFile : List ℕ → RuleFile → Type 0
-IsRuleFile text long_rules = max_file < length text
-IsRuleFile text no_rules = (length text ≤ max_file) × ((rules : List Rule) → ¬ IsRuleText text rules)
-IsRuleFile text (rules_are rules) = (length text ≤ max_file) × IsRuleText text rules
+-- what the file is by the right answer about its text
+abbrev pub rule_file_of : RulesAnswer → RuleFile
+rule_file_of (some_rules rules) = rules_are rules
+rule_file_of no_rules = rules_refused (unbuilt (codes "rules"))
 
--- what a capture file is
+-- the answer about this text is right, and the text is not too long
+pub record IsTaken (text : List ℕ) (answer : RulesAnswer) : Type 0 where
+  pub short : length text ≤ max_file
+  pub right : IsRulesAnswer text answer
+
+abbrev pub AreRules : List ℕ → List Rule → Type 0
+AreRules text rules = IsTaken text (some_rules rules)
+
+abbrev pub AreNoRules : List ℕ → Type 0
+AreNoRules text = IsTaken text no_rules
+
+-- what a rule file of this name and text is
+abbrev pub IsRuleFile : List ℕ → List ℕ → RuleFile → Type 0
+IsRuleFile name text file =
+    ((max_file < length text) × (file ≡ rules_refused (long_file name)))
+    ⊎ ((answer : RulesAnswer) × IsTaken text answer × (file ≡ rule_file_of answer))
+
+-- The capture file.
+
+-- what a capture file is: a capture, or refused
 pub data CaptureFile : Type 0 where
-  long_capture : CaptureFile
-  answer_is : Answer → CaptureFile
+  capture_is : Contents → CaptureFile
+  capture_refused : Cause → CaptureFile
 
-abbrev pub IsCaptureFile : List ℕ → CaptureFile → Type 0
-IsCaptureFile bytes long_capture = max_file < length bytes
-IsCaptureFile bytes (answer_is answer) = (length bytes ≤ max_file) × IsAnswer bytes answer
+-- what the file is by the right answer about its bytes
+abbrev pub file_of : Answer → CaptureFile
+file_of (captured contents) = capture_is contents
+file_of (refused fault) = capture_refused (bad_capture fault)
+file_of too_many_frames = capture_refused many_frames
 
--- what an inspection of the two comes to
+-- the answer about these bytes is right, and they are not too many
+pub record IsRead (bytes : List ℕ) (answer : Answer) : Type 0 where
+  pub short : length bytes ≤ max_file
+  pub right : IsAnswer bytes answer
+
+-- what a capture file of this name and these bytes is
+abbrev pub IsCaptureFile : List ℕ → List ℕ → CaptureFile → Type 0
+IsCaptureFile name bytes file =
+    ((max_file < length bytes) × (file ≡ capture_refused (long_file name)))
+    ⊎ ((answer : Answer) × IsRead bytes answer × (file ≡ file_of answer))
+
+-- Both.
+
+-- what an inspection comes to
 pub data Verdict : Type 0 where
-  rules_too_long : Verdict
-  rules_unbuilt : Verdict
-  capture_too_long : Verdict
-  bad_capture : Answer → Verdict
-  too_many_findings : Verdict
   reports : List ℕ → Verdict
+  stops : Cause → Verdict
 
--- of rules and a capture that says this
-unfoldable pub verdict_under : List Rule → List ℕ → Contents → Verdict
-verdict_under rules bytes contents =
-    if nat_lt max_findings (length (findings_of_capture rules bytes contents))
-    then too_many_findings
+-- the status that it ends with where nothing fails
+abbrev pub verdict_status : Verdict → ℕ
+verdict_status (reports text) = 0
+verdict_status (stops cause) = status_of cause
+
+-- of rules and a capture that says this, with at most so many findings
+unfoldable pub verdict_under : ℕ → List Rule → List ℕ → Contents → Verdict
+verdict_under most rules bytes contents =
+    if nat_lt most (length (findings_of_capture rules bytes contents))
+    then stops many_findings
     else reports (report_of rules bytes contents)
 
--- of rules and a file of these bytes, of which this answer is right
-abbrev pub verdict_at : List Rule → List ℕ → CaptureFile → Verdict
-verdict_at rules bytes long_capture = capture_too_long
-verdict_at rules bytes (answer_is (captured contents)) = verdict_under rules bytes contents
-verdict_at rules bytes (answer_is (refused fault)) = bad_capture (refused fault)
-verdict_at rules bytes (answer_is too_many_frames) = bad_capture too_many_frames
-
--- these rules and a capture file of these bytes come to this
-pub record IsVerdictUnder (rules : List Rule) (bytes : List ℕ) (verdict : Verdict) : Type 0 where
-  pub capture : CaptureFile
-  pub capture_is : IsCaptureFile bytes capture
-  pub comes_to : verdict ≡ verdict_at rules bytes capture
+abbrev pub verdict_at : ℕ → List Rule → List ℕ → CaptureFile → Verdict
+verdict_at most rules bytes (capture_is contents) = verdict_under most rules bytes contents
+verdict_at most rules bytes (capture_refused cause) = stops cause
 
 -- the rules come first: a capture is looked at only where they stand
-abbrev pub verdict_of : List ℕ → RuleFile → CaptureFile → Verdict
-verdict_of bytes long_rules file = rules_too_long
-verdict_of bytes no_rules file = rules_unbuilt
-verdict_of bytes (rules_are rules) file = verdict_at rules bytes file
+abbrev pub verdict_of : ℕ → RuleFile → List ℕ → CaptureFile → Verdict
+verdict_of most (rules_refused cause) bytes file = stops cause
+verdict_of most (rules_are rules) bytes file = verdict_at most rules bytes file
 
--- files of these bytes come to this
-pub record IsVerdict (text bytes : List ℕ) (verdict : Verdict) : Type 0 where
+-- files of these names and bytes come to this, with at most so many findings
+pub record IsVerdict (names : Names) (most : ℕ) (text bytes : List ℕ) (verdict : Verdict) : Type 0 where
   pub rules : RuleFile
   pub capture : CaptureFile
-  pub rules_are : IsRuleFile text rules
-  pub capture_is : IsCaptureFile bytes capture
-  pub comes_to : verdict ≡ verdict_of bytes rules capture
+  pub rules_is : IsRuleFile names.rules text rules
+  pub capture_is : IsCaptureFile names.capture bytes capture
+  pub comes_to : verdict ≡ verdict_of most rules bytes capture
 
--- the status that a run ends with where nothing fails
-abbrev pub verdict_status : Verdict → ℕ
-verdict_status rules_too_long = 6
-verdict_status rules_unbuilt = 8
-verdict_status capture_too_long = 6
-verdict_status (bad_capture (captured contents)) = 5
-verdict_status (bad_capture (refused fault)) = 5
-verdict_status (bad_capture too_many_frames) = 6
-verdict_status too_many_findings = 6
-verdict_status (reports text) = 0
+-- rules and a capture file of this name and these bytes come to this
+pub record IsVerdictUnder (most : ℕ) (rules : List Rule) (name bytes : List ℕ) (verdict : Verdict) : Type 0 where
+  pub capture : CaptureFile
+  pub capture_is : IsCaptureFile name bytes capture
+  pub comes_to : verdict ≡ verdict_at most rules bytes capture
+
+-- a rule file is one thing only
+abbrev pub RuleFileIsOne : Type 0
+RuleFileIsOne = (name text : List ℕ) (one two : RuleFile) → IsRuleFile name text one → IsRuleFile name text two → one ≡ two
 
 -- two files come to one verdict only
 abbrev pub VerdictIsOne : Type 0
-VerdictIsOne = (text bytes : List ℕ) (one two : Verdict) → IsVerdict text bytes one → IsVerdict text bytes two → one ≡ two
+VerdictIsOne =
+    (names : Names) (most : ℕ) (text bytes : List ℕ) (one two : Verdict)
+    → IsVerdict names most text bytes one → IsVerdict names most text bytes two → one ≡ two

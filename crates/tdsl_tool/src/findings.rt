@@ -13,21 +13,21 @@ ghost use Rattle.inspection_terms.specs.Findings.{all_findings, finding_number, 
 use crate::members::{Members, count_incomplete, members_by_group, whole_from};
 use capture_terms::task_law;
 use ipv4_fragments::{Plan, Task, payload};
+use report::Finding;
 use rule_matcher::{Rules, any_asks_for, findings_of};
 use rule_terms::findings_are_there;
 use std::alloc::{AllocError, Global};
-
-/// The most findings that a report may have.
-const MAX_FINDINGS: usize = 65_536;
 
 fn append(found: &mut Vec<u64>, frame: u32, here: &[(u16, u16)]) -> Result<(), AllocError>
     ensures added { OnOk result (found.new.items ≡ found.old.items ++ map (finding_number frame) here.now) }
 {
     for (rule, place) in here {
-        let number = u64::from(frame) * 4_294_967_296
-            + u64::from(*rule) * 65_536
-            + u64::from(*place);
-        found.push(number)?;
+        let finding = Finding {
+            frame,
+            rule: *rule,
+            place: *place,
+        };
+        found.push(finding.number())?;
     }
     Ok(())
 }
@@ -113,7 +113,7 @@ fn add_findings(
 /// The findings of rules in a plan, and how many of its groups are incomplete.
 #[derive(Drop)]
 pub struct Found {
-    /// In order of first frame, then rule, each as `frame * 2^32 + rule * 2^16 + place`.
+    /// Each as its `Finding::number`, in order of first frame, then rule.
     pub numbers: Vec<u64>,
     pub incomplete: u32,
 }
@@ -121,63 +121,67 @@ pub struct Found {
 /// Why there are no findings.
 #[derive(Clone, Copy, Debug, PartialEq, Eq)]
 pub enum FindingsEnd {
-    /// There are more than a report may have.
+    /// There are more than were asked for.
     TooMany,
     /// Memory was wanted.
     Memory,
 }
 
-// Matches the datagrams of a plan, whose tasks are listed by their groups.
+// Matches the datagrams of a plan, whose tasks are listed by their groups. More than `most` findings
+// are too many.
 fn match_all(
     alloc: Global,
     plan: &Plan,
     lists: &[Members],
     bytes: &[u8],
     rules: &Rules,
+    most: u32,
 ) -> Result<Vec<u64>, FindingsEnd>
     requires planned { (capture : Capture) × IsClassifiable bytes.now capture × IsPlan bytes.now capture plan.now }
     requires lists { AreMembers plan.now.tasks.items (length plan.now.tasks.items) (length lists.now) lists.now }
     requires grouped { All (IsGrouped (length lists.now)) plan.now.tasks.items }
     requires few { All (λ (list : declared.Members). length list.tasks.items < 2 ^ 32) lists.now }
     ensures findings { IfOk result (λ numbers. numbers.items ≡ all_findings rules.now bytes.now plan.now.tasks.items) }
-    ensures few { IfOk result (λ numbers. length numbers.items ≤ 65536) }
+    ensures few { IfOk result (λ numbers. length numbers.items ≤ most) }
     ensures rules_there { IfOk result (λ numbers. All (λ (f : ℕ). rule_of f < length rules.now) numbers.items) }
-    ensures too_many { IsErrOf result FindingsEnd.TooMany → 65536 < length (all_findings rules.now bytes.now plan.now.tasks.items) }
+    ensures too_many { IsErrOf result FindingsEnd.TooMany → most < length (all_findings rules.now bytes.now plan.now.tasks.items) }
 {
     let mut numbers = Vec::new(alloc);
     for task in &plan.tasks {
         let Ok(()) = add_findings(alloc, &mut numbers, plan, lists, bytes, rules, task) else {
             return Err(FindingsEnd::Memory);
         };
-        if numbers.len() > MAX_FINDINGS {
+        if numbers.len() as u64 > u64::from(most) {
             return Err(FindingsEnd::TooMany);
         }
     }
     Ok(numbers)
 }
 
-/// Matches the datagrams of a plan, in order of their first frames.
+/// Matches the datagrams of a plan, in order of their first frames. More than `most` findings are too
+/// many.
 pub fn find_all(
     alloc: Global,
     plan: &Plan,
     bytes: &[u8],
     rules: &Rules,
+    most: u32,
 ) -> Result<Found, FindingsEnd>
     requires planned { (capture : Capture) × IsClassifiable bytes.now capture × IsPlan bytes.now capture plan.now }
     requires few { length plan.now.tasks.items < 2 ^ 32 }
     requires few_groups { length plan.now.groups.items < 2 ^ 32 }
     requires grouped { All (IsGrouped (length plan.now.groups.items)) plan.now.tasks.items }
     ensures findings { IfOk result (λ found. found.numbers.items ≡ all_findings rules.now bytes.now plan.now.tasks.items) }
-    ensures few { IfOk result (λ found. length found.numbers.items ≤ 65536) }
+    ensures few { IfOk result (λ found. length found.numbers.items ≤ most) }
     ensures incomplete { IfOk result (λ found. found.incomplete ≡ incomplete plan.now.tasks.items plan.now.groups.items) }
     ensures open_groups { IfOk result (λ found. found.incomplete ≤ length plan.now.groups.items) }
     ensures rules_there { IfOk result (λ found. All (λ (f : ℕ). rule_of f < length rules.now) found.numbers.items) }
-    ensures too_many { IsErrOf result FindingsEnd.TooMany → 65536 < length (all_findings rules.now bytes.now plan.now.tasks.items) }
+    ensures too_many { IsErrOf result FindingsEnd.TooMany → most < length (all_findings rules.now bytes.now plan.now.tasks.items) }
 {
     let Ok(lists) = members_by_group(alloc, plan) else {
         return Err(FindingsEnd::Memory);
     };
-    let numbers = match_all(alloc, plan, &lists, bytes, rules)?;
+    let numbers = match_all(alloc, plan, &lists, bytes, rules, most)?;
     Ok(Found {
         numbers,
         incomplete: count_incomplete(&lists),

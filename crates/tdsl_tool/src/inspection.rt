@@ -1,51 +1,55 @@
 // What rules find in a capture.
-ghost use Rattle.std.specs.Prelude.{◌≡◌, ℕ, ◌≤◌, length, IfOk, IfErr, IfSome, List};
-ghost use Rattle.tdsl_tool.specs.Verdict.{IsVerdictUnder, reports, max_file};
+ghost use Rattle.std.specs.Prelude.{◌≡◌, ℕ, ◌≤◌, List, length, IfOk, IfErr, IfSome};
 ghost use Rattle.capture_terms.specs.Capture.{IsAnswer};
 ghost use Rattle.pcap_frames.specs.Answer.{refusal_of};
 ghost use Rattle.rule_terms.specs.Rule.{Rule};
+ghost use Rattle.report.specs.Fault.{cause_of};
 ghost use Rattle.tdsl_tool.specs.Run.{StopsUnder};
+ghost use Rattle.tdsl_tool.specs.Verdict.{IsVerdictUnder, reports, max_file};
 
-use crate::ending::Ending;
 use crate::findings::{FindingsEnd, find_all};
 use ipv4_fragments::classify;
 use pcap_frames::{CaptureEnd, frames};
-use report::report_text;
+use report::{CaptureFault, Fault, report_text};
 use rule_matcher::Rules;
 use std::alloc::Global;
 
 // Why a file that is no capture gives no report.
-#[tactic(auto, using(crate::proofs::Verdicts::refused_under))]
-fn refused(end: CaptureEnd) -> Ending
-    ensures { (rules : List Rule) (bytes : List ℕ) → length bytes ≤ max_file → IfSome (refusal_of end) (IsAnswer bytes) → StopsUnder rules bytes result }
+fn refused<'a>(end: CaptureEnd) -> Fault<'a>
+    ensures { (most : ℕ) (rules : List Rule) (name bytes : List ℕ) → length bytes ≤ max_file → IfSome (refusal_of end) (IsAnswer bytes) → StopsUnder most rules name bytes (cause_of result) }
 {
     match end {
-        CaptureEnd::Header { at } => Ending::BadHeader { at },
-        CaptureEnd::Version => Ending::OtherVersion,
-        CaptureEnd::Link { number } => Ending::OtherLink { number },
-        CaptureEnd::Record { at } => Ending::LongRecord { at },
-        CaptureEnd::TooMany => Ending::TooManyFrames,
-        CaptureEnd::Memory => Ending::Memory,
+        CaptureEnd::Header { at } => Fault::Capture(CaptureFault::Header { at }),
+        CaptureEnd::Version => Fault::Capture(CaptureFault::Version),
+        CaptureEnd::Link { number } => Fault::Capture(CaptureFault::Link { number }),
+        CaptureEnd::Record { at } => Fault::Capture(CaptureFault::Record { at }),
+        CaptureEnd::TooMany => Fault::LimitFrames,
+        CaptureEnd::Memory => Fault::Memory,
     }
 }
 
-/// The report of a capture file under rules.
-pub fn report_under(alloc: Global, rules: &Rules, bytes: &[u8]) -> Result<Vec<u8>, Ending>
+/// The report of a capture file under rules, with at most `most` findings.
+pub fn report_under<'a>(
+    alloc: Global,
+    rules: &Rules,
+    bytes: &[u8],
+    most: u32,
+) -> Result<Vec<u8>, Fault<'a>>
     requires { length bytes.now ≤ max_file }
-    ensures report { IfOk result (λ text. IsVerdictUnder rules.now bytes.now (reports text.items)) }
-    ensures stops { IfErr result (StopsUnder rules.now bytes.now) }
+    ensures report { IfOk result (λ text. (name : List ℕ) → IsVerdictUnder most rules.now name bytes.now (reports text.items)) }
+    ensures stops { IfErr result (λ fault. (name : List ℕ) → StopsUnder most rules.now name bytes.now (cause_of fault)) }
 {
     let capture = match frames(alloc, bytes) {
         Ok(capture) => capture,
         Err(end) => return Err(refused(end)),
     };
     let Ok(plan) = classify(alloc, &capture, bytes) else {
-        return Err(Ending::Memory);
+        return Err(Fault::Memory);
     };
-    let found = match find_all(alloc, &plan, bytes, rules) {
+    let found = match find_all(alloc, &plan, bytes, rules, most) {
         Ok(found) => found,
-        Err(FindingsEnd::TooMany) => return Err(Ending::TooManyFindings),
-        Err(FindingsEnd::Memory) => return Err(Ending::Memory),
+        Err(FindingsEnd::TooMany) => return Err(Fault::LimitFindings),
+        Err(FindingsEnd::Memory) => return Err(Fault::Memory),
     };
     match report_text(
         alloc,
@@ -56,6 +60,6 @@ pub fn report_under(alloc: Global, rules: &Rules, bytes: &[u8]) -> Result<Vec<u8
         &found.numbers,
     ) {
         Ok(text) => Ok(text),
-        Err(_) => Err(Ending::Memory),
+        Err(_) => Err(Fault::Memory),
     }
 }

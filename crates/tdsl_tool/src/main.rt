@@ -1,7 +1,6 @@
 //! Inspects captures of packets: `inspect RULES CAPTURE` writes a report of what the rules find.
 #![tactic(auto)]
 
-mod ending;
 mod findings;
 mod inspection;
 mod laws;
@@ -9,12 +8,10 @@ mod members;
 mod run;
 #[cfg(test)]
 mod tests;
-mod words;
 
 use byte_ends::{RealFiles, RealSink};
-use ending::{Ending, status};
 use report::Fault;
-use run::{run_with, tell_fault};
+use run::{run_with, tell};
 use std::alloc::Global;
 use std::io::ErrorKind;
 use std::process::ExitCode;
@@ -38,8 +35,7 @@ fn main(rt: HostRuntime) -> ExitCode {
         Ok(words) => words,
         Err(error) => match error.kind() {
             ErrorKind::OutOfMemory => {
-                tell_fault(&mut faults, &Fault::Memory);
-                return ExitCode::from(status(Ending::Memory));
+                return ExitCode::from(tell(&mut faults, &Fault::Memory));
             }
             // Words that can't be had, as those that are no text, are none that the program knows.
             _ => Vec::new(alloc),

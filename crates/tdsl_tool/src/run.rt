@@ -1,16 +1,16 @@
 // The top call.
-ghost use Rattle.std.specs.Prelude.{◌≡◌, ℕ, ◌≤◌, List, length, IfOk, IfErr, vec_len, map, string_bytes};
+ghost use Rattle.std.specs.Prelude.{◌≡◌, ℕ, ◌≤◌, List, length, IfOk, IfErr, map, string_bytes};
 ghost use Rattle.byte_ends.specs.Told.{IfTold};
-ghost use Rattle.tdsl_tool.specs.Verdict.{reports, IsRuleFile, rules_are};
-ghost use Rattle.tdsl_tool.specs.Run.{Reading, IsReport, StopsAt, StopsAtRules, EndsSo, Tells, TellsLine, Ran};
-ghost use Rattle.report.specs.FaultLine.{fault_words};
+ghost use Rattle.command_words.specs.Words.{names_of};
+ghost use Rattle.report.specs.Fault.{cause_of, status_of};
+ghost use Rattle.tdsl_tool.specs.Verdict.{reports, max_file, AreRules};
+ghost use Rattle.tdsl_tool.specs.Run.{source, reading, writing, ComesTo, StopsReading, StopsAtRules, StopsAt, EndsSo, ending_of, ending_status, Tells, TellsLine, Ran};
 
-use crate::ending::{Ending, fault, status};
 use crate::inspection::report_under;
 use crate::laws::one_verdict;
-use crate::words::{FileNames, file_names};
 use byte_ends::{Files, ReadEnd, Sink, read_all, write_all};
 use capture_terms::some_answer;
+use command_words::{Command, FileNames, command_of};
 use report::{Fault, write_fault};
 use rule_matcher::{Rules, RulesEnd, rules};
 use std::alloc::Global;
@@ -18,102 +18,108 @@ use std::alloc::Global;
 /// The most bytes that a file may have: 64 MiB.
 const MAX_FILE: u64 = 67_108_864;
 
-fn rules_from<F: Files>(alloc: Global, files: &mut F, names: FileNames<'_>) -> Result<Rules, Ending>
-    ensures rules { IfOk result (λ rules. IfTold (F.content files.old names.entry.rules.now) (λ text. IsRuleFile text (rules_are rules))) }
-    ensures stops { IfErr result (StopsAtRules (record {
-      names = record { rules = names.entry.rules.now; capture = names.entry.capture.now };
-      content = F.content files.old;
-      before = F.faults files.old;
-      after = F.faults files.new;
-    })) }
+// The bytes of a file.
+fn bytes_of<'a, F: Files>(alloc: Global, files: &mut F, name: &'a str) -> Result<Vec<u8>, Fault<'a>>
+    ensures whole { IfOk result (λ bytes. IfTold (F.content files.old name.now) (λ file. bytes.items ≡ file)) }
+    ensures short { IfOk result (λ bytes. length bytes.items ≤ max_file) }
+    ensures stops { IfErr result (λ fault. StopsReading (source (F.content files.old) (F.faults files.old) (F.faults files.new) name.now) (cause_of fault)) }
     ensures content { (file : List ℕ) → F.content files.new file ≡ F.content files.old file }
     ensures counts { (file : List ℕ) → F.faults files.old file ≤ F.faults files.new file }
 {
-    let text = match read_all(alloc, files, names.rules, MAX_FILE) {
-        Ok(text) => text,
-        Err(ReadEnd::Read) => return Err(Ending::ReadRules),
-        Err(ReadEnd::TooLong) => return Err(Ending::RulesTooLong),
-        Err(ReadEnd::Memory) => return Err(Ending::Memory),
-    };
-    match rules(alloc, &text) {
-        Ok(rules) => Ok(rules),
-        Err(RulesEnd::Unbuilt) => Err(Ending::RulesUnbuilt),
-        Err(RulesEnd::Memory) => Err(Ending::Memory),
+    match read_all(alloc, files, name, MAX_FILE) {
+        Ok(bytes) => Ok(bytes),
+        Err(ReadEnd::Read) => Err(Fault::Read(name)),
+        Err(ReadEnd::TooLong) => Err(Fault::LimitFile(name)),
+        Err(ReadEnd::Memory) => Err(Fault::Memory),
     }
 }
 
-fn report_for<F: Files>(
-    alloc: Global,
-    files: &mut F,
-    names: FileNames<'_>,
-) -> Result<Vec<u8>, Ending>
-    ensures report { IfOk result (λ text. IsReport (record {
-      names = record { rules = names.entry.rules.now; capture = names.entry.capture.now };
-      content = F.content files.old;
-      before = F.faults files.old;
-      after = F.faults files.new;
-    }) text.items) }
-    ensures stops { IfErr result (StopsAt (record {
-      names = record { rules = names.entry.rules.now; capture = names.entry.capture.now };
-      content = F.content files.old;
-      before = F.faults files.old;
-      after = F.faults files.new;
-    })) }
+// The rules of a file.
+fn rules_from<'a, F: Files>(alloc: Global, files: &mut F, name: &'a str) -> Result<Rules, Fault<'a>>
+    ensures rules { IfOk result (λ rules. IfTold (F.content files.old name.now) (λ text. AreRules text rules)) }
+    ensures stops { IfErr result (λ fault. StopsAtRules (source (F.content files.old) (F.faults files.old) (F.faults files.new) name.now) (cause_of fault)) }
     ensures content { (file : List ℕ) → F.content files.new file ≡ F.content files.old file }
     ensures counts { (file : List ℕ) → F.faults files.old file ≤ F.faults files.new file }
 {
-    let rules = rules_from(alloc, files, names)?;
-    let bytes = match read_all(alloc, files, names.capture, MAX_FILE) {
-        Ok(bytes) => bytes,
-        Err(ReadEnd::Read) => return Err(Ending::ReadCapture),
-        Err(ReadEnd::TooLong) => return Err(Ending::CaptureTooLong),
-        Err(ReadEnd::Memory) => return Err(Ending::Memory),
+    let text = match bytes_of(alloc, files, name) {
+        Ok(text) => text,
+        Err(fault) => return Err(fault),
     };
-    report_under(alloc, &rules, &bytes)
+    match rules(alloc, &text) {
+        Ok(rules) => Ok(rules),
+        Err(RulesEnd::Unbuilt) => Err(Fault::Unbuilt("rules")),
+        Err(RulesEnd::Memory) => Err(Fault::Memory),
+    }
 }
 
-fn ending_of<F: Files, O: Sink>(
+// The report of an inspection.
+fn report_for<'a, F: Files>(
+    alloc: Global,
+    files: &mut F,
+    names: FileNames<'a>,
+    findings: u32,
+) -> Result<Vec<u8>, Fault<'a>>
+    ensures report { IfOk result (λ text. ComesTo (reading (F.content files.old) (F.faults files.old) (F.faults files.new) (names_of names.entry) findings) (reports text.items)) }
+    ensures stops { IfErr result (λ fault. StopsAt (reading (F.content files.old) (F.faults files.old) (F.faults files.new) (names_of names.entry) findings) (cause_of fault)) }
+    ensures content { (file : List ℕ) → F.content files.new file ≡ F.content files.old file }
+    ensures counts { (file : List ℕ) → F.faults files.old file ≤ F.faults files.new file }
+{
+    let rules = match rules_from(alloc, files, names.rules) {
+        Ok(rules) => rules,
+        Err(fault) => return Err(fault),
+    };
+    let bytes = match bytes_of(alloc, files, names.capture) {
+        Ok(bytes) => bytes,
+        Err(fault) => return Err(fault),
+    };
+    report_under(alloc, &rules, &bytes, findings)
+}
+
+// Inspects, and writes the report.
+fn inspect<'a, F: Files, O: Sink>(
     alloc: Global,
     files: &mut F,
     out: &mut O,
-    names: FileNames<'_>,
-) -> Ending
-    ensures ends { EndsSo (record {
-      names = record { rules = names.entry.rules.now; capture = names.entry.capture.now };
-      content = F.content files.old;
-      before = F.faults files.old;
-      after = F.faults files.new;
-    })
-        (record { before = O.written out.old; after = O.written out.new; faults_before = O.faults out.old; faults_after = O.faults out.new }) result }
+    names: FileNames<'a>,
+    findings: u32,
+) -> Result<(), Fault<'a>>
+    ensures ends { EndsSo (reading (F.content files.old) (F.faults files.old) (F.faults files.new) (names_of names.entry) findings)
+        (writing (O.written out.old) (O.written out.new) (O.faults out.old) (O.faults out.new)) (ending_of result) }
     ensures content { (file : List ℕ) → F.content files.new file ≡ F.content files.old file }
     ensures counts { (file : List ℕ) → F.faults files.old file ≤ F.faults files.new file }
     ensures counts_out { O.faults out.old ≤ O.faults out.new }
 {
-    match report_for(alloc, files, names) {
-        Err(ending) => ending,
-        Ok(text) => match write_all(out, &text) {
-            Ok(()) => Ending::Reported,
-            Err(_) => Ending::NotWritten,
-        },
+    let text = match report_for(alloc, files, names, findings) {
+        Ok(text) => text,
+        Err(fault) => return Err(fault),
+    };
+    match write_all(out, &text) {
+        Ok(()) => Ok(()),
+        Err(_) => Err(Fault::Write),
     }
 }
 
-fn tell<E: Sink>(faults: &mut E, names: FileNames<'_>, ending: Ending)
-    ensures tells { Tells (record { before = E.written faults.old; after = E.written faults.new; faults_before = E.faults faults.old; faults_after = E.faults faults.new })
-        (record { rules = names.entry.rules.now; capture = names.entry.capture.now }) ending }
-    ensures counts { E.faults faults.old ≤ E.faults faults.new }
-{
-    if let Some(fault) = fault(names, ending) {
-        tell_fault(faults, &fault);
-    }
-}
-
-/// Writes the line of a fault. Whether it is written whole changes no status.
-pub fn tell_fault<E: Sink>(faults: &mut E, fault: &Fault<'_>)
-    ensures tells { TellsLine (record { before = E.written faults.old; after = E.written faults.new; faults_before = E.faults faults.old; faults_after = E.faults faults.new }) (fault_words fault.now) }
+/// Writes the line of a fault, and answers its status. Whether the line is written whole changes no
+/// status.
+pub fn tell<E: Sink>(faults: &mut E, fault: &Fault<'_>) -> u8
+    ensures status { result ≡ status_of (cause_of fault.now) }
+    ensures tells { TellsLine (writing (E.written faults.old) (E.written faults.new) (E.faults faults.old) (E.faults faults.new)) (cause_of fault.now) }
     ensures counts { E.faults faults.old ≤ E.faults faults.new }
 {
     let _ = write_fault(faults, fault);
+    fault.status()
+}
+
+// Tells how a command ended, and answers the status.
+fn finish<E: Sink>(faults: &mut E, ended: Result<(), Fault<'_>>) -> u8
+    ensures status { result ≡ ending_status (ending_of ended.entry) }
+    ensures tells { Tells (writing (E.written faults.old) (E.written faults.new) (E.faults faults.old) (E.faults faults.new)) (ending_of ended.entry) }
+    ensures counts { E.faults faults.old ≤ E.faults faults.new }
+{
+    match ended {
+        Ok(()) => 0,
+        Err(fault) => tell(faults, &fault),
+    }
 }
 
 /// Does all that the program does, for the words behind the program's own name, and answers the
@@ -131,13 +137,12 @@ pub fn run_with<Rt, F: Files, O: Sink, E: Sink>(
     out: &mut O,
     faults: &mut E,
 ) -> u8
-    ensures ran { Ran (record {
-      words = map (λ w. string_bytes w) words.now;
+    ensures ran { Ran (map (λ w. string_bytes w) words.now) (record {
       content = F.content files.old;
       before = F.faults files.old;
       after = F.faults files.new;
-      out = record { before = O.written out.old; after = O.written out.new; faults_before = O.faults out.old; faults_after = O.faults out.new };
-      faults = record { before = E.written faults.old; after = E.written faults.new; faults_before = E.faults faults.old; faults_after = E.faults faults.new };
+      out = writing (O.written out.old) (O.written out.new) (O.faults out.old) (O.faults out.new);
+      faults = writing (E.written faults.old) (E.written faults.new) (E.faults faults.old) (E.faults faults.new);
       status = result;
     }) }
 
@@ -151,11 +156,11 @@ pub fn run_with<Rt, F: Files, O: Sink, E: Sink>(
     let _ = rt;
     one_verdict();
     some_answer();
-    let Some(names) = file_names(words) else {
-        tell_fault(faults, &Fault::Usage);
-        return 1;
-    };
-    let ending = ending_of(alloc, files, out, names);
-    tell(faults, names, ending);
-    status(ending)
+    match command_of(words) {
+        Command::Unknown => tell(faults, &Fault::Usage),
+        Command::Inspect { names, findings } => {
+            let ended = inspect(alloc, files, out, names, findings);
+            finish(faults, ended)
+        }
+    }
 }

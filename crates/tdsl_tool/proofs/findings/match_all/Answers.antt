@@ -4,8 +4,8 @@ use Rattle.tdsl_tool.proofs.MemberSteps.{any_default}
 use Rattle.tdsl_tool.proofs.FindingSteps.{findings_among, findings_among-step, findings_among-all, findings_among-within}
 use Rattle.tdsl_tool.proofs.findings.match_all.Goals as goal
 
-pub returns-then-len-gt-MAX_FINDINGS-clause-too_many : goal.returns-then-len-gt-MAX_FINDINGS-clause-too_many
-returns-then-len-gt-MAX_FINDINGS-clause-too_many c = λ is.
+pub returns-then-len-from-clause-too_many : goal.returns-then-len-from-clause-too_many
+returns-then-len-from-clause-too_many c = λ is.
     let rules = c.args.rules.now in
     let bytes = c.args.bytes.now in
     let tasks = c.args.plan.now.tasks.items in

@@ -10,6 +10,6 @@ abbrev pub invariant-loop-task : goal.invariant-loop-task
 invariant-loop-task l = record {
   items : l.task-items ≡ l.plan.tasks.items;
   are : l.numbers.items ≡ flat_map (findings_in l.rules l.bytes) (filter_map (datagram_from l.plan.tasks.items) (take l.task-index l.plan.tasks.items));
-  few : length l.numbers.items ≤ 65536;
+  few : length l.numbers.items ≤ l.most;
   rules_there : All (λ (f : ℕ). rule_of f < length l.rules) l.numbers.items;
 }

@@ -1,57 +1,46 @@
-use Rattle.std.proofs.Common.{refl, ◌∙◌, arith}
+use Rattle.std.proofs.Common.{refl, ◌∙◌, inl, inr, arith}
 use Rattle.std.proofs.lemmas.Result.{IfOk-weaker, IfErr-weaker}
-use Rattle.tdsl_tool.specs.Verdict.{reports, long_capture}
-use Rattle.tdsl_tool.proofs.Verdicts.{comes_to, comes_to_of, stops_at}
+use Rattle.command_words.specs.Words.{names_of}
+use Rattle.report.specs.Fault.{cause_of}
+use Rattle.tdsl_tool.specs.Run.{source, reading}
+use Rattle.tdsl_tool.specs.Verdict.{reports}
+use Rattle.tdsl_tool.proofs.Verdicts.{comes_to_of, stops_unread, stops_at}
 use Rattle.tdsl_tool.proofs.run.report_for.Goals as goal
 
-pub returns-in-Err-Read-clause-stops : goal.returns-in-Err-Read-clause-stops
-returns-in-Err-Read-clause-stops g c = (
-  omega (arith, c.rules_from.ensures.counts c.args.names.capture.now, c.in-Err-Read.ensures.read_cause (cc)),
-  λ text told. (c.in_ok-rules.rules, c.in_ok-rules.ensures.rules text told),
-)
-
-pub returns-in-Err-TooLong-clause-stops : goal.returns-in-Err-TooLong-clause-stops
-returns-in-Err-TooLong-clause-stops g c =
-    comes_to
-    (record {
-      names = record { rules = c.args.names.rules.now; capture = c.args.names.capture.now };
-      content = g.F.Files.content c.args.files.now;
-      before = g.F.Files.faults c.args.files.now;
-      after = g.F.Files.faults c.read_all.new.files;
-    })
-    c.in_ok-rules.rules c.in_ok-rules.ensures.rules _
-    (λ bytes told. record {
-      capture = long_capture;
-      capture_is = c.in-Err-TooLong.ensures.too_long (cc) bytes (c.rules_from.ensures.content c.args.names.capture.now ∙ told);
-      comes_to = refl;
-    })
+pub returns-in-Err-bytes_of-clause-stops : goal.returns-in-Err-bytes_of-clause-stops
+returns-in-Err-bytes_of-clause-stops g c =
+    let content = g.F.Files.content in
+    let faults = g.F.Files.faults in
+    let capture = c.args.names.capture.now in
+    inr (stops_unread
+    (reading (content c.args.files.now) (faults c.args.files.now) (faults c.bytes_of.new.files) (names_of c.args.names) c.args.findings)
+    c.in-Ok.rules c.in-Ok.ensures.rules
+    (source (content c.rules_from.new.files) (faults c.rules_from.new.files) (faults c.bytes_of.new.files) capture)
+    refl (c.rules_from.ensures.content capture) (λ failed. omega (arith, c.rules_from.ensures.counts capture, failed))
+    (cause_of c.in-Err-bytes_of.fault) c.in-Err-bytes_of.ensures.stops)
 
 pub returns-clause-report : goal.returns-clause-report
 returns-clause-report g c =
+    let content = g.F.Files.content in
+    let faults = g.F.Files.faults in
+    let capture = c.args.names.capture.now in
     IfOk-weaker c.report_under.result _ _
     (λ text under. comes_to_of
-    (record {
-      names = record { rules = c.args.names.rules.now; capture = c.args.names.capture.now };
-      content = g.F.Files.content c.args.files.now;
-      before = g.F.Files.faults c.args.files.now;
-      after = g.F.Files.faults c.read_all.new.files;
-    })
-    c.in_ok-rules.rules c.in_ok-rules.ensures.rules c.deref.result.now
-    (λ bytes told. c.deref.ensures.value ∙ c.in-Ok.ensures.whole bytes (c.rules_from.ensures.content c.args.names.capture.now ∙ told))
-    (reports text.items) under)
+    (reading (content c.args.files.now) (faults c.args.files.now) (faults c.bytes_of.new.files) (names_of c.args.names) c.args.findings)
+    c.in-Ok.rules c.in-Ok.ensures.rules c.deref.result.now
+    (λ bytes told. c.deref.ensures.value ∙ c.in-Ok-bytes_of.ensures.whole bytes (c.rules_from.ensures.content capture ∙ told))
+    (reports text.items) (under capture))
     c.report_under.ensures.report
 
 pub returns-clause-stops : goal.returns-clause-stops
 returns-clause-stops g c =
+    let content = g.F.Files.content in
+    let faults = g.F.Files.faults in
+    let capture = c.args.names.capture.now in
     IfErr-weaker c.report_under.result _ _
-    (λ ending stops. stops_at
-    (record {
-      names = record { rules = c.args.names.rules.now; capture = c.args.names.capture.now };
-      content = g.F.Files.content c.args.files.now;
-      before = g.F.Files.faults c.args.files.now;
-      after = g.F.Files.faults c.read_all.new.files;
-    })
-    c.in_ok-rules.rules c.in_ok-rules.ensures.rules c.deref.result.now
-    (λ bytes told. c.deref.ensures.value ∙ c.in-Ok.ensures.whole bytes (c.rules_from.ensures.content c.args.names.capture.now ∙ told))
-    ending stops)
+    (λ fault under. inr (stops_at
+    (reading (content c.args.files.now) (faults c.args.files.now) (faults c.bytes_of.new.files) (names_of c.args.names) c.args.findings)
+    c.in-Ok.rules c.in-Ok.ensures.rules c.deref.result.now
+    (λ bytes told. c.deref.ensures.value ∙ c.in-Ok-bytes_of.ensures.whole bytes (c.rules_from.ensures.content capture ∙ told))
+    (cause_of fault) (under capture)))
     c.report_under.ensures.stops

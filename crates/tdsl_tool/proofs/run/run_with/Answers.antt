@@ -1,8 +1,9 @@
-use Rattle.tdsl_tool.proofs.Ran.{ran_named}
+use Rattle.std.proofs.Common.{sym}
+use Rattle.tdsl_tool.specs.Run.{ending_of}
+use Rattle.tdsl_tool.proofs.Ran.{ran_inspection}
 use Rattle.tdsl_tool.proofs.run.run_with.Goals as goal
 
-pub returns-clause-ran : goal.returns-clause-ran
-returns-clause-ran g c =
-    ran_named c.one_verdict.ensures c.some_answer.ensures _
-    (record { rules = c.in-Some.names.rules.now; capture = c.in-Some.names.capture.now }) c.ending_of-ending.result
-    c.status.ensures c.in-Some.ensures c.ending_of-ending.ensures.ends c.tell.ensures.tells
+pub returns-in-Inspect-clause-ran : goal.returns-in-Inspect-clause-ran
+returns-in-Inspect-clause-ran g c =
+    ran_inspection c.one_verdict.ensures.files c.one_verdict.ensures.rules c.some_answer.ensures _ _ _ _ (ending_of c.inspect-ended.result)
+    (sym c.in-Inspect.ensures) c.finish.ensures.status c.inspect-ended.ensures.ends c.finish.ensures.tells

@@ -1,0 +1,8 @@
+//! The words of the command line, read into the command that they are.
+#![tactic(auto)]
+
+mod command;
+#[cfg(test)]
+mod tests;
+
+pub use command::{Command, FileNames, command_of};

@@ -1,0 +1,79 @@
+-- Why a run ends without all of its output: the cause, the line that tells it, and the status. The
+-- lines and the statuses are this project's own.
+use Rattle.std.specs.Prelude.{ℕ, List, [], ◌∷◌, ◌++◌, codes}
+use Rattle.std.specs.Fmt.{decimal}
+use Rattle.report.specs.declared.fault.Fault.{Fault}
+use Rattle.report.specs.declared.fault.Fault.TheVariants.{Usage, Read, Write, Rules, Capture, LimitFile, LimitFrames, LimitRules, LimitFindings, Unbuilt, Memory}
+use Rattle.capture_terms.specs.declared.capture.CaptureFault.{CaptureFault}
+use Rattle.capture_terms.specs.declared.capture.CaptureFault.TheVariants.{Header, Version, Link, Record}
+use Rattle.report.specs.declared.fault.Detail.{Detail}
+use Rattle.report.specs.declared.fault.Detail.TheVariants.{Text, Number}
+
+-- a fault as a plain value, in which a file is told by the bytes of its name
+pub data Cause : Type 0 where
+  no_command : Cause
+  unread : List ℕ → Cause
+  unwritten : Cause
+  bad_line : ℕ → Cause
+  bad_capture : CaptureFault → Cause
+  long_file : List ℕ → Cause
+  many_frames : Cause
+  many_rules : Cause
+  many_findings : Cause
+  unbuilt : List ℕ → Cause
+  no_memory : Cause
+
+abbrev pub cause_of : Fault → Cause
+cause_of Usage = no_command
+cause_of (Read name) = unread name.now
+cause_of Write = unwritten
+cause_of (Rules line) = bad_line line
+cause_of (Capture fault) = bad_capture fault
+cause_of (LimitFile name) = long_file name.now
+cause_of LimitFrames = many_frames
+cause_of LimitRules = many_rules
+cause_of LimitFindings = many_findings
+cause_of (Unbuilt what) = unbuilt what.now
+cause_of Memory = no_memory
+
+-- the status that the program ends with
+abbrev pub status_of : Cause → ℕ
+status_of no_command = 1
+status_of (unread name) = 2
+status_of unwritten = 3
+status_of (bad_line line) = 4
+status_of (bad_capture fault) = 5
+status_of (long_file name) = 6
+status_of many_frames = 6
+status_of many_rules = 6
+status_of many_findings = 6
+status_of no_memory = 7
+status_of (unbuilt what) = 8
+
+abbrev pub capture_words : CaptureFault → List ℕ
+capture_words (Header at) = codes "header at " ++ decimal at
+capture_words Version = codes "version at 4"
+capture_words (Link number) = codes "link " ++ decimal number ++ codes " at 20"
+capture_words (Record at) = codes "record at " ++ decimal at
+
+-- what is told of it
+abbrev pub words_of : Cause → List ℕ
+words_of no_command = codes "usage: inspect|journal [--workers N] [--findings N] RULES CAPTURE | make SEED FRAMES | trial [--workers N] SEED FRAMES"
+words_of (unread name) = codes "read fault: " ++ name
+words_of unwritten = codes "write fault"
+words_of (bad_line line) = codes "bad rules: line " ++ decimal line
+words_of (bad_capture fault) = codes "bad capture: " ++ capture_words fault
+words_of (long_file name) = codes "limit: file " ++ name
+words_of many_frames = codes "limit: frames"
+words_of many_rules = codes "limit: rules"
+words_of many_findings = codes "limit: findings"
+words_of (unbuilt what) = codes "unbuilt: " ++ what
+words_of no_memory = codes "want of memory"
+
+-- its line, with the line feed
+abbrev pub line_of : Cause → List ℕ
+line_of cause = words_of cause ++ 10 ∷ []
+
+abbrev pub detail_bytes : Detail → List ℕ
+detail_bytes (Text bytes) = bytes.now
+detail_bytes (Number number) = decimal number
