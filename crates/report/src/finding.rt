@@ -18,7 +18,9 @@ impl Finding {
     pub fn number(self) -> u64
         ensures { result ≡ finding_number self.frame (self.rule, self.place) }
     {
-        u64::from(self.frame) * 4_294_967_296 + u64::from(self.rule) * 65_536 + u64::from(self.place)
+        u64::from(self.frame) * 4_294_967_296
+            + u64::from(self.rule) * 65_536
+            + u64::from(self.place)
     }
 
     /// The finding of a number.
