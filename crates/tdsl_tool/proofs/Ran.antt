@@ -205,7 +205,7 @@ module _ (one : VerdictIsOne) (some : SomeAnswer) (of : Reading) (out : Writing)
     -- a rule file that is refused ends the run
     refused_ends : RuleFileIsOne → (ending : Ending) (status : ℕ) → EndsSo of out ending → status ≡ ending_status ending → (cause : Cause) → IsRuleFile of.rules.name text (rules_refused cause) → EndsBy status (status_of cause)
     refused_ends one_file ending status ends is cause refused =
-                elim (rules_by_ending ending ends) [
+        elim (rules_by_ending ending ends) [
           | inl are ↦ absurd (not_both _ cause (one_file of.rules.name text (rules_are are.0) (rules_refused cause) (inr (some_rules are.0, are.1, refl)) refused))
           | inr (inl (inl seven)) ↦ inr (inl (is ∙ seven))
           | inr (inl (inr two)) ↦ inr (inr (is ∙ two))
