@@ -3,8 +3,10 @@
 
 KIND is `mixed` (whole UDP datagrams, other frames and datagrams in three fragments), `clashing` (8,192
 places of one datagram, sent again and again; the last three lie beyond the greatest datagram), `long`
-(one datagram in so many fragments of 8 bytes, the last one first), or `example` (the small capture in
-examples/; FRAMES is passed over).
+(one datagram in so many fragments of 8 bytes, the last one first), `large` (whole datagrams of 1,400
+bytes), `single` (one fragment of each of so many datagrams), `colliding` (the same, of keys that a hash
+table with a fixed seed puts side by side), or `example` (the small capture in examples/; FRAMES is passed
+over).
 """
 import struct
 import sys
@@ -62,6 +64,50 @@ def long(frames):
         yield ip(1, at, True, 1, b"aaaaaaaa")
 
 
+def large(frames):
+    for number in range(frames):
+        text = bytes(97 + (number + i) % 26 for i in range(1400 - 42))
+        yield ip(number & 0xFFFF, 0, False, 17, udp(53, text))
+
+
+def single(frames):
+    for number in range(frames):
+        yield ip(number & 0xFFFF, 0, True, 1, b"aaaaaaaa", struct.pack(">I", 0x0A000000 + number // 65536))
+
+
+MULTIPLIER = 0x9E3779B97F4A7C15
+MASK = 2**64 - 1
+
+
+def folded(state, short, length):
+    """The state of the hasher that a map takes by default, after a number of so many bytes."""
+    product = (state ^ short) * (MULTIPLIER ^ 2 * length)
+    return product & MASK ^ product >> 64
+
+
+def colliding(frames):
+    """Keys whose hashes begin their search in the first 2,048 groups of a table of 32,768, which is as large
+    as 262,144 keys make it. The hash is that by which groups were found before they were ordered: of the
+    source, the destination, the protocol and the identification in turn, as 32 bits."""
+    destination = int.from_bytes(DESTINATION, "big")
+    factor = MULTIPLIER ^ 4
+    shorts = [number & 0xFF | (number >> 8) * 0x10100 for number in range(65536)]
+    source = 0x0A000000
+    while frames > 0:
+        state = 0x243F6A8885A308D3
+        for number in (source, destination):
+            state = folded(state, number | number << 32, 4)
+        state = folded(state, 0x010101, 1)
+        address = struct.pack(">I", source)
+        for number, short in enumerate(shorts):
+            product = (state ^ short) * factor
+            product ^= product >> 64
+            if (product ^ product >> 32) & 0x7800 == 0 and frames > 0:
+                frames -= 1
+                yield ip(number, 0, True, 1, b"aaaaaaaa", address)
+        source += 1
+
+
 def example(_frames):
     name = b"\x07example\x03com\x00"
     question = struct.pack(">HHHHHH", 1, 0x0100, 1, 0, 0, 0) + name + struct.pack(">HH", 1, 1)
@@ -73,7 +119,10 @@ def example(_frames):
     yield ip(6, 0, True, 1, b"abcdefgh")
 
 
-KINDS = {"mixed": mixed, "clashing": clashing, "long": long, "example": example}
+KINDS = {
+    "mixed": mixed, "clashing": clashing, "long": long, "large": large,
+    "single": single, "colliding": colliding, "example": example,
+}
 
 
 def main():

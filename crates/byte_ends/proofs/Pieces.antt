@@ -1,5 +1,5 @@
 -- One piece more: of a file that is read, and of bytes that are written.
-use Rattle.std.proofs.Common.{◌≡◌, ℕ, ◌+◌, ◌≤◌, List, [], ◌∷◌, ◌++◌, length, take, drop, Option, Some, refl, sym, ◌∙◌, ap, subst, arith, append_assoc, take-append-drop, length-append, length-take, length-drop}
+use Rattle.std.proofs.Common.{◌≡◌, ℕ, ◌+◌, ◌≤◌, List, [], ◌∷◌, ◌++◌, length, take, drop, Option, Some, refl, sym, ◌∙◌, ap, subst, arith, append_assoc, take-append-drop, length-append, length-take}
 use Rattle.std.proofs.Math.Seq.{take-add}
 use Rattle.std.proofs.lemmas.List.{take_all, append-nil}
 use Rattle.byte_ends.specs.Told.{IsPieceAt, Grows, GrowsByPrefix}
@@ -21,14 +21,6 @@ IsFront-more front more file buffer at n before piece room place is =
           ∙ ap (λ (l : List ℕ). l ++ take n (drop at file)) (ap (λ (k : ℕ). take k file) place ∙ sym before.same)
           ∙ ap (λ (l : List ℕ). front ++ l) (sym piece.same));
     }
-
--- a buffer whose first bytes are the file's, once more of them were read behind these
-pub IsFront-read : (before made after file : List ℕ) (filled n : ℕ) → IsFront (take filled before) file → filled ≤ length before → take filled made ≡ take filled before → take filled after ≡ take filled made → filled + n ≤ length after → IsPieceAt file filled n (drop filled after) → IsFront (take (filled + n) after) file
-IsFront-read before made after file filled n front within kept same bound piece =
-    IsFront-more (take filled before) (take (filled + n) after) file (drop filled after) filled n front piece
-    (omega (arith, bound, length-drop {A = ℕ} filled after))
-    (omega (arith, within, length-take filled before))
-    (take-add filled n after ∙ ap (λ (l : List ℕ). l ++ take n (drop filled after)) (same ∙ kept))
 
 pub IsFront-all : (front file : List ℕ) → IsFront front file → length file ≤ length front → front ≡ file
 IsFront-all front file before end = before.same ∙ take_all (length front) file end

@@ -1,15 +1,15 @@
 // Whole files and whole texts, by as many calls as they take.
-ghost use Rattle.std.specs.Prelude.{◌≡◌, ℕ, ◌+◌, ◌-◌, ◌^◌, ◌<◌, ◌≤◌, List, length, take, drop, Option, IfOk, OnOk, OnErr, IsErr, IsErrOf, vec_len};
-ghost use Rattle.byte_ends.specs.Told.{Rose, IfTold, IsPieceAt, Grows, GrowsByPrefix};
+ghost use Rattle.std.specs.Prelude.{◌≡◌, ℕ, ◌+◌, ◌-◌, ◌^◌, ◌<◌, ◌≤◌, List, length, take, Option, IfOk, OnOk, OnErr, IsErr, IsErrOf, vec_len};
+ghost use Rattle.byte_ends.specs.Told.{Rose, IfTold, Grows, GrowsByPrefix};
 
 use crate::{Failed, Files, ReadFault, Sink};
-use std::alloc::{AllocError, Global};
+use std::alloc::Global;
 
-// The room for a file at first, which is enough for most rule files.
-const FIRST_ROOM: usize = 65_536;
+// The bytes that the first call asks for, which are all of most rule files, and those that a later one
+// asks for.
+const FIRST_PIECE: usize = 65_536;
 
-// The least room that is added where that isn't enough.
-const LEAST_MORE: usize = 1_048_576;
+const PIECE: usize = 2_097_152;
 
 /// Why a file wasn't read whole.
 #[derive(Clone, Copy, Debug, PartialEq, Eq)]
@@ -20,46 +20,6 @@ pub enum ReadEnd {
     TooLong,
     /// Memory was wanted.
     Memory,
-}
-
-// Makes room behind the first `filled` bytes where there is none: as much as they have, so that few
-// calls read a file of any length, but no more than shows whether the file is longer than the limit.
-fn make_room(content: &mut Vec<u8>, filled: usize, limit: usize) -> Result<(), AllocError>
-    requires near { limit ≤ 2 ^ 30 }
-    requires within { filled ≤ limit }
-    requires there { filled ≤ vec_len content.old }
-    ensures kept { take filled content.new.items ≡ take filled content.old.items }
-    ensures more { OnOk result (filled < vec_len content.new) }
-{
-    if filled < content.len() {
-        return Ok(());
-    }
-    let more = if filled == 0 {
-        FIRST_ROOM
-    } else {
-        filled.max(LEAST_MORE)
-    };
-    content.resize(filled + more.min(limit - filled + 1), 0)
-}
-
-// Reads into the room behind the first `filled` bytes.
-fn read_on<F: Files>(
-    files: &mut F,
-    name: &str,
-    content: &mut Vec<u8>,
-    filled: usize,
-) -> Result<usize, ReadFault>
-    requires near { filled ≤ 2 ^ 30 }
-    requires room { filled < vec_len content.old }
-    ensures kept { take filled content.new.items ≡ take filled content.old.items }
-    ensures bound { IfOk result (λ n. filled + n ≤ vec_len content.new) }
-    ensures bytes { IfOk result (λ n. IfTold (F.content files.old name.now) (λ file. IsPieceAt file filled n (drop filled content.new.items))) }
-    ensures end { IfOk result (λ n. IfTold (F.content files.old name.now) (λ file. n ≡ 0 → length file ≤ filled)) }
-    ensures content { (file : List ℕ) → F.content files.new file ≡ F.content files.old file }
-    ensures counts { (file : List ℕ) → F.faults files.old file ≤ F.faults files.new file }
-    ensures cause { IsErrOf result ReadFault.Failed → Rose (F.faults files.old name.now) (F.faults files.new name.now) }
-{
-    files.read(name, filled as u64, &mut content[filled..])
 }
 
 /// The whole file, of at most `limit` bytes, where `limit` is at most 2^30.
@@ -83,26 +43,29 @@ pub fn read_all<F: Files>(
     ensures content { (file : List ℕ) → F.content files.new file ≡ F.content files.old file }
     ensures counts { (file : List ℕ) → F.faults files.old file ≤ F.faults files.new file }
 {
-    let most = limit as usize;
     let mut content = Vec::new(alloc);
-    let mut filled = 0;
+    let mut piece = Vec::new(alloc);
+    let mut room = FIRST_PIECE;
     loop {
-        if make_room(&mut content, filled, most).is_err() {
+        if piece.resize(room, 0).is_err() {
             return Err(ReadEnd::Memory);
         }
-        let count = match read_on(files, name, &mut content, filled) {
+        let at = content.len() as u64;
+        let count = match files.read(name, at, &mut piece) {
             Ok(count) => count,
             Err(ReadFault::Failed) => return Err(ReadEnd::Read),
             Err(ReadFault::Memory) => return Err(ReadEnd::Memory),
         };
         if count == 0 {
-            content.truncate(filled);
             return Ok(content);
         }
-        if count > most - filled {
+        if count as u64 > limit - at {
             return Err(ReadEnd::TooLong);
         }
-        filled += count;
+        if content.extend_from_slice(&piece[..count]).is_err() {
+            return Err(ReadEnd::Memory);
+        }
+        room = PIECE;
     }
 }
 

@@ -1,6 +1,6 @@
 -- A map from groups to their places in a list, and one group more.
-use Rattle.std.proofs.Common.{◌≡◌, ℕ, ◌+◌, ◌<◌, Bool, true, false, List, [], ◌∷◌, ◌++◌, Option, None, Some, refl, sym, ◌∙◌, ap, inl, inr, arith, length, get_or, length-append}
-use Rattle.std.specs.Prelude.{position, nat_lt, cond, ◌==◌, ◌&&◌, ◌||◌}
+use Rattle.std.proofs.Common.{◌≡◌, ℕ, ◌+◌, ◌<◌, Bool, true, false, List, [], ◌∷◌, ◌++◌, Option, None, Some, refl, sym, ◌∙◌, ap, subst, arith, length, get_or, length-append}
+use Rattle.std.specs.Prelude.{position, nat_lt, cond, ◌==◌, ◌&&◌, ◌||◌, MatchOption}
 use Rattle.std.specs.List.{list_any, position_or_len, IsDistinct}
 use Rattle.std.specs.Ordering.{nat_cmp, ordering_then, is_eq}
 use Rattle.std.specs.declared.cmp.Ordering.{Ordering}
@@ -16,9 +16,9 @@ use Rattle.std.proofs.Math.Seq.{get_or-append_seam}
 use Rattle.capture_terms.specs.declared.datagram.Header.{Header}
 use Rattle.capture_terms.specs.declared.plan.Group.{Group}
 use Rattle.capture_terms.specs.Kept.{is_same_header, is_same_group}
-use Rattle.ipv4_fragments.specs.GroupList.{header_cmp, group_cmp, AreNumbered}
+use Rattle.ipv4_fragments.specs.GroupList.{header_cmp, group_cmp, AreNumbered, IsPlaceOf}
 use Rattle.ipv4_fragments.proofs.Clashes.{any_push}
-use Rattle.ipv4_fragments.proofs.KeptGroups.{none_at, any_at, same_group, same_itself, same_swapped, numbered}
+use Rattle.ipv4_fragments.proofs.KeptGroups.{none_at, any_at, same_group, same_itself, same_swapped, numbered, apart_keys}
 
 -- groups are the same where neither comes before the other
 tied : (a b : Ordering) (p q : Bool) → is_eq a ≡ p → is_eq b ≡ q → is_eq (ordering_then a b) ≡ (p && q)
@@ -84,14 +84,29 @@ module _ (q : Group) where
           let found = position-Some (is_same_group q) xs n y at in
           numbered (is_same_group q) xs (y ∷ []) n y found.0 found.1 found.2
 
--- a group that has a place is one of the list
-pub known_group : (numbers : BTreeMap Group ℕ) (groups now : List Group) (g : Group) (n : ℕ) → AreNumbered numbers groups → groups ≡ now → Some n ≡ get group_cmp numbers g → list_any (is_same_group g) now ≡ true
-known_group numbers groups now g n before same found = ap (list_any (is_same_group g)) (sym same) ∙ any_placed (is_same_group g) groups n g (sym (before.places g) ∙ sym found)
+-- the place of a group that stands somewhere in the list
+pub place_at : (groups now : List Group) (g : Group) (n : ℕ) (d : Group) → IsDistinct is_same_group groups → groups ≡ now → n < length groups → is_same_group g (get_or groups n d) ≡ true → IsPlaceOf now g n
+place_at groups now g n d distinct same within here = subst (λ (l : List Group). IsPlaceOf l g n) same (record {
+  there = any_at (is_same_group g) groups n d within here;
+  place = sym (position_or_len_is (is_same_group g) groups n d (omega arith)
+      (λ k lt. same_swapped (get_or groups k d) g (apart_keys groups distinct g n d within here k (omega (arith, lt)) (λ (e : k ≡ n). omega (arith, e, lt))))
+      (λ _. here));
+  within = within;
+  differ = distinct;
+})
 
-pub known_within : (numbers : BTreeMap Group ℕ) (groups now : List Group) (g : Group) (n : ℕ) → AreNumbered numbers groups → groups ≡ now → Some n ≡ get group_cmp numbers g → n < length now
-known_within numbers groups now g n before same found =
-    let at = position-Some (is_same_group g) groups n g (sym (before.places g) ∙ sym found) in
-    omega (arith, at.0, ap (length {A = Group}) same)
+-- the place of a group that is the one read there
+pub place_read : (groups now seen : List Group) (g h : Group) (n : ℕ) → IsDistinct is_same_group groups → groups ≡ now → seen ≡ groups → n < length seen → ((d : Group) → h ≡ get_or seen n d) → is_same_group h g ≡ true → IsPlaceOf now g n
+place_read groups now seen g h n distinct same is within at here =
+    let found : get_or groups n g ≡ g = ap (λ (l : List Group). get_or l n g) (sym is) ∙ sym (at g) ∙ same_group h g here in
+    place_at groups now g n g distinct same (omega (arith, within, ap (length {A = Group}) is)) (ap (is_same_group g) found ∙ same_itself g)
+
+-- the place that a map has for a group
+pub place_found : (numbers : BTreeMap Group ℕ) (groups now : List Group) (g : Group) (found : Option ℕ) → AreNumbered numbers groups → groups ≡ now → found ≡ get group_cmp numbers g → MatchOption found (list_any (is_same_group g) now ≡ false) (IsPlaceOf now g)
+place_found numbers groups now g None before same is = ap (list_any (is_same_group g)) (sym same) ∙ none_placed (is_same_group g) groups (sym (before.places g) ∙ sym is)
+place_found numbers groups now g (Some n) before same is =
+    let at = position-Some (is_same_group g) groups n g (sym (before.places g) ∙ sym is) in
+    place_at groups now g n g before.differ same at.0 at.1
 
 pub numbered_none : (numbers : BTreeMap Group ℕ) → numbers.entries ≡ [] → AreNumbered numbers []
 unfolding IsDistinct

@@ -1,6 +1,6 @@
 -- Groups by their numbers.
-use Rattle.std.specs.Prelude.{◌≡◌, ℕ, List, position}
-use Rattle.std.specs.List.{IsDistinct}
+use Rattle.std.specs.Prelude.{◌≡◌, ℕ, ◌<◌, true, List, length, position}
+use Rattle.std.specs.List.{list_any, position_or_len, IsDistinct}
 use Rattle.std.specs.BTreeMap.{get}
 use Rattle.std.specs.BTreeMap.{BTreeMap}
 use Rattle.capture_terms.specs.declared.plan.Group.{Group}
@@ -19,4 +19,11 @@ group_cmp g h = ordering_then (header_cmp g.header h.header) (nat_cmp g.id h.id)
 -- the map has the place of each group of the list, and of no other, and the groups differ
 pub record AreNumbered (numbers : BTreeMap Group ℕ) (groups : List Group) : Type 0 where
   pub places : (group : Group) → get group_cmp numbers group ≡ position (is_same_group group) groups
+  pub differ : IsDistinct is_same_group groups
+
+-- the group is one of the list, in which each stands once, and this is its place
+pub record IsPlaceOf (groups : List Group) (group : Group) (number : ℕ) : Type 0 where
+  pub there : list_any (is_same_group group) groups ≡ true
+  pub place : number ≡ position_or_len (is_same_group group) groups
+  pub within : number < length groups
   pub differ : IsDistinct is_same_group groups

@@ -1,8 +1,8 @@
-ghost use Rattle.std.specs.Prelude.{◌≡◌, ◌-◌, ◌<◌, ◌^◌, List, [], ◌∷◌, ◌++◌, length, not, IfOk, OnErr, if◌then◌else◌};
+ghost use Rattle.std.specs.Prelude.{◌≡◌, ◌-◌, ◌<◌, ◌^◌, List, [], ◌∷◌, ◌++◌, length, not, false, MatchOption, IfOk, OnErr, if◌then◌else◌};
 ghost use Rattle.std.specs.List.{list_any, position_or_len, IsDistinct};
 ghost use Rattle.capture_terms.specs.declared.plan.Group.{Group};
 ghost use Rattle.capture_terms.specs.Kept.{is_same_group};
-ghost use Rattle.ipv4_fragments.specs.GroupList.{AreNumbered};
+ghost use Rattle.ipv4_fragments.specs.GroupList.{AreNumbered, IsPlaceOf};
 
 use capture_terms::Group;
 use std::alloc::{AllocError, Global};
@@ -16,6 +16,8 @@ use std::marker::Model;
 pub struct GroupList {
     numbers: BTreeMap<Group, u32>,
     groups: Vec<Group>,
+    /// The number that was told last. Most fragments follow one of their own group.
+    last: u32,
 }
 
 impl Model for GroupList {
@@ -34,7 +36,20 @@ impl GroupList {
         GroupList {
             numbers: BTreeMap::new(alloc),
             groups: Vec::new(alloc),
+            last: 0,
         }
+    }
+
+    // The number of a group, if it is one of these.
+    fn find(&self, group: &Group) -> Option<u32>
+        ensures { MatchOption result (list_any (is_same_group group.now) self.now ≡ false) (IsPlaceOf self.now group.now) }
+    {
+        if let Some(last) = self.groups.get(self.last as usize) {
+            if last == group {
+                return Some(self.last);
+            }
+        }
+        self.numbers.get(group).copied()
     }
 
     /// The number of a group, and whether the group is new, in which case it is put behind the others.
@@ -47,12 +62,14 @@ impl GroupList {
         ensures unique { IsDistinct is_same_group self.new }
         ensures err { OnErr result (self.new ≡ self.old) }
     {
-        if let Some(number) = self.numbers.get(&group) {
-            return Ok((*number, false));
+        if let Some(number) = self.find(&group) {
+            self.last = number;
+            return Ok((number, false));
         }
         self.groups.reserve(1)?;
         let number = self.groups.len() as u32;
         self.numbers.insert(group, number)?;
+        self.last = number;
         self.groups.push(group).unwrap();
         Ok((number, true))
     }

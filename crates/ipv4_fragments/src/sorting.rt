@@ -64,16 +64,18 @@ fn settle(
 }
 
 impl Sorting {
-    /// What is made of no frames.
-    pub fn new(alloc: Global) -> Sorting
-        ensures holds { Holds result [] }
-        ensures empty { length result.groups.known ≡ 0 }
+    /// What is made of no frames, with room for what is made of so many.
+    pub fn with_room(alloc: Global, frames: usize) -> Result<Sorting, AllocError>
+        ensures holds { IfOk result (λ sorting. Holds sorting []) }
+        ensures empty { IfOk result (λ sorting. length sorting.groups.known ≡ 0) }
     {
-        Sorting {
-            classes: Vec::new(alloc),
-            tasks: Vec::new(alloc),
+        let classes = Vec::with_capacity(alloc, frames)?;
+        let tasks = Vec::with_capacity(alloc, frames)?;
+        Ok(Sorting {
+            classes,
+            tasks,
             groups: Groups::new(alloc),
-        }
+        })
     }
 
     /// Adds what is made of a further frame.
@@ -106,7 +108,7 @@ pub fn classify(alloc: Global, capture: &Capture, bytes: &[u8]) -> Result<Plan, 
     ensures { IfOk result (λ plan. IsPlan bytes.now capture.now plan) }
 {
     let link = Link::numbered(capture.link);
-    let mut sorting = Sorting::new(alloc);
+    let mut sorting = Sorting::with_room(alloc, capture.frames.len())?;
     for (number, frame) in capture.frames.iter().enumerate() {
         let kind = kind_of(link, bytes, frame);
         sorting.add(alloc, number as u32, &kind)?;

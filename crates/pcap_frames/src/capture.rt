@@ -3,7 +3,7 @@ ghost use Rattle.capture_terms.specs.Capture.{Answer, IsAnswer, IsAcceptedLink, 
 ghost use Rattle.pcap_frames.specs.Answer.{answer_of};
 ghost use Rattle.pcap_frames.specs.declared.capture.CaptureEnd.TheVariants.{Memory};
 
-use crate::record_reader::{FileHeader, Next, file_header, next_at};
+use crate::record_reader::{FileHeader, Next, RECORD_HEADER, file_header, next_at};
 use capture_terms::{Capture, frames_lie_within, one_answer};
 use std::alloc::{AllocFailed, Global};
 
@@ -42,7 +42,10 @@ fn read(alloc: Global, bytes: &[u8]) -> Result<Capture, CaptureEnd>
     ensures { IfSome (answer_of result) (IsAnswer bytes.now) }
 {
     let FileHeader { order, link } = file_header(bytes)?;
-    let mut frames = Vec::new(alloc);
+    let most = (bytes.len() / RECORD_HEADER).min(MAX_FRAMES);
+    let Ok(mut frames) = Vec::with_capacity(alloc, most) else {
+        return Err(CaptureEnd::Memory);
+    };
     let mut at = FIRST_RECORD;
     loop {
         match next_at(order, bytes, at) {

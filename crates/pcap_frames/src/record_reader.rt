@@ -12,7 +12,8 @@ const MAGIC: u32 = 0xa1b2c3d4;
 
 const FILE_HEADER: usize = 24;
 
-const RECORD_HEADER: usize = 16;
+/// The length of a record's header, and so the least length of a record.
+pub const RECORD_HEADER: usize = 16;
 
 const MAX_LENGTH: u32 = 262144;
 

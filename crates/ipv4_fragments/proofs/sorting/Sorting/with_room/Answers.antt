@@ -1,5 +1,5 @@
 use Rattle.ipv4_fragments.proofs.Sorted.{holds_none}
-use Rattle.ipv4_fragments.proofs.sorting.Sorting.new.Goals as goal
+use Rattle.ipv4_fragments.proofs.sorting.Sorting.with_room.Goals as goal
 
 pub returns-clause-holds : goal.returns-clause-holds
-returns-clause-holds c = holds_none _ c.new.ensures.items c.new-2.ensures.items c.new-3.ensures
+returns-clause-holds c = holds_none _ c.in_ok-classes.ensures.items c.in_ok-tasks.ensures.items c.new.ensures
