@@ -1,11 +1,12 @@
 -- A map from groups to their places in a list, and one group more.
-use Rattle.std.proofs.Common.{◌≡◌, ℕ, ◌+◌, ◌<◌, Bool, true, false, List, [], ◌∷◌, ◌++◌, Option, None, Some, refl, sym, ◌∙◌, ap, subst, arith, length, get_or, length-append}
-use Rattle.std.specs.Prelude.{position, nat_lt, cond, ◌==◌, ◌&&◌, ◌||◌, MatchOption}
+use Rattle.std.proofs.Common.{◌≡◌, ℕ, ◌+◌, ◌<◌, ◌≤◌, Bool, true, false, List, [], ◌∷◌, ◌++◌, Option, None, Some, refl, sym, ◌∙◌, ap, subst, arith, length, get_or, length-append}
+use Rattle.std.specs.Prelude.{position, nat_lt, cond, ◌&&◌, ◌||◌}
 use Rattle.std.specs.List.{list_any, position_or_len, IsDistinct}
-use Rattle.std.specs.Ordering.{nat_cmp, ordering_then, is_eq}
+use Rattle.std.specs.Option.{unwrap_or}
+use Rattle.std.specs.Ordering.{ordering_then, is_eq}
 use Rattle.std.specs.declared.cmp.Ordering.{Ordering}
 use Rattle.std.specs.Cmp.{IsEquivalence, tied_then, unsigned_tied}
-use Rattle.std.specs.BTreeMap.{BTreeMap, get, Updates}
+use Rattle.std.specs.BTreeMap.{BTreeMap, get}
 use Rattle.std.proofs.lemmas.Bool.Decides.{nat_tests}
 use Rattle.std.proofs.lemmas.List.Folds.{list_any_none}
 use Rattle.std.proofs.lemmas.List.Sums.{position_or_len_is, fails_before_first}
@@ -16,7 +17,7 @@ use Rattle.std.proofs.Math.Seq.{get_or-append_seam}
 use Rattle.capture_terms.specs.declared.datagram.Header.{Header}
 use Rattle.capture_terms.specs.declared.plan.Group.{Group}
 use Rattle.capture_terms.specs.Kept.{is_same_header, is_same_group}
-use Rattle.ipv4_fragments.specs.GroupList.{header_cmp, group_cmp, AreNumbered, IsPlaceOf}
+use Rattle.ipv4_fragments.specs.GroupList.{header_cmp, group_cmp, AreNumbered, HasNumber, IsPlaceOf}
 use Rattle.ipv4_fragments.proofs.Clashes.{any_push}
 use Rattle.ipv4_fragments.proofs.KeptGroups.{none_at, any_at, same_group, same_itself, same_swapped, numbered, apart_keys}
 
@@ -101,21 +102,35 @@ place_read groups now seen g h n distinct same is within at here =
     let found : get_or groups n g ≡ g = ap (λ (l : List Group). get_or l n g) (sym is) ∙ sym (at g) ∙ same_group h g here in
     place_at groups now g n g distinct same (omega (arith, within, ap (length {A = Group}) is)) (ap (is_same_group g) found ∙ same_itself g)
 
--- the place that a map has for a group
-pub place_found : (numbers : BTreeMap Group ℕ) (groups now : List Group) (g : Group) (found : Option ℕ) → AreNumbered numbers groups → groups ≡ now → found ≡ get group_cmp numbers g → MatchOption found (list_any (is_same_group g) now ≡ false) (IsPlaceOf now g)
-place_found numbers groups now g None before same is = ap (list_any (is_same_group g)) (sym same) ∙ none_placed (is_same_group g) groups (sym (before.places g) ∙ sym is)
-place_found numbers groups now g (Some n) before same is =
-    let at = position-Some (is_same_group g) groups n g (sym (before.places g) ∙ sym is) in
-    place_at groups now g n g before.differ same at.0 at.1
+-- what the number that a map gives says of a group: it is the next one where the group had none
+module _ (numbers : BTreeMap Group ℕ) (groups now : List Group) (g : Group) (number next : ℕ) (before : AreNumbered numbers groups) (same : groups ≡ now) (long : next ≡ length groups) (is : number ≡ unwrap_or (get group_cmp numbers g) next) where
+  pub told_known : number < next → list_any (is_same_group g) now ≡ true
+  told_known below = by_case (get group_cmp numbers g) refl
+    where
+      by_case : (o : Option ℕ) → get group_cmp numbers g ≡ o → list_any (is_same_group g) now ≡ true
+      by_case None none = let last : number ≡ next = is ∙ (rw none refl) in absurd (omega (arith, last, below))
+      by_case (Some n) found =
+          let at = position-Some (is_same_group g) groups n g (sym (before.places g) ∙ found) in
+          (place_at groups now g n g before.differ same at.0 at.1).there
+
+  pub told_new : next ≤ number → (list_any (is_same_group g) groups ≡ false) × (number ≡ length groups)
+  told_new past = by_case (get group_cmp numbers g) refl
+    where
+      by_case : (o : Option ℕ) → get group_cmp numbers g ≡ o → (list_any (is_same_group g) groups ≡ false) × (number ≡ length groups)
+      by_case None none = (none_placed (is_same_group g) groups (sym (before.places g) ∙ none), is ∙ (rw none refl) ∙ long)
+      by_case (Some n) found =
+          let told : number ≡ n = is ∙ (rw found refl) in
+          let at = position-Some (is_same_group g) groups n g (sym (before.places g) ∙ found) in
+          absurd (omega (arith, told, past, long, at.0))
 
 pub numbered_none : (numbers : BTreeMap Group ℕ) → numbers.entries ≡ [] → AreNumbered numbers []
 unfolding IsDistinct
 numbered_none numbers empty = record { places = λ q. rw empty refl; differ = tt }
 
 -- one group more, which is none of those before
-pub numbered_more : (numbers new : BTreeMap Group ℕ) (groups : List Group) (g : Group) → AreNumbered numbers groups → list_any (is_same_group g) groups ≡ false → Updates group_cmp numbers new g (Some (length groups)) → AreNumbered new (groups ++ g ∷ [])
+pub numbered_more : (numbers new : BTreeMap Group ℕ) (groups : List Group) (g : Group) → AreNumbered numbers groups → list_any (is_same_group g) groups ≡ false → HasNumber numbers new g (length groups) → AreNumbered new (groups ++ g ∷ [])
 numbered_more numbers new groups g before none put = record {
-  places = λ q. put.0 q ∙ ap (λ (b : Bool). cond b (Some (length groups)) (get group_cmp numbers q)) (same_groups g q) ∙ by_case q (is_same_group g q) refl;
+  places = λ q. put q ∙ ap (λ (b : Bool). cond b (Some (length groups)) (get group_cmp numbers q)) (same_groups g q) ∙ by_case q (is_same_group g q) refl;
   differ = IsDistinct-push same_equivalent groups g before.differ none;
 }
   where

@@ -1,8 +1,10 @@
-ghost use Rattle.std.specs.Prelude.{◌≡◌, ◌-◌, ◌<◌, ◌^◌, List, [], ◌∷◌, ◌++◌, length, not, false, MatchOption, IfOk, OnErr, if◌then◌else◌};
+ghost use Rattle.std.specs.Prelude.{◌≡◌, ◌-◌, ◌<◌, ◌^◌, List, [], ◌∷◌, ◌++◌, length, not, IfSome, IfOk, OnErr, if◌then◌else◌};
 ghost use Rattle.std.specs.List.{list_any, position_or_len, IsDistinct};
+ghost use Rattle.std.specs.Option.{unwrap_or};
+ghost use Rattle.std.specs.BTreeMap.{get};
 ghost use Rattle.capture_terms.specs.declared.plan.Group.{Group};
 ghost use Rattle.capture_terms.specs.Kept.{is_same_group};
-ghost use Rattle.ipv4_fragments.specs.GroupList.{AreNumbered, IsPlaceOf};
+ghost use Rattle.ipv4_fragments.specs.GroupList.{group_cmp, AreNumbered, HasNumber, IsPlaceOf};
 
 use capture_terms::Group;
 use std::alloc::{AllocError, Global};
@@ -28,6 +30,15 @@ impl Model for GroupList {
     ghost invariant = { λ l. AreNumbered l.numbers l.groups.items };
 }
 
+// The number of a group, which is the next one where it has none yet.
+fn number_of(numbers: &mut BTreeMap<Group, u32>, group: Group, next: u32) -> Result<u32, AllocError>
+    ensures number { IfOk result (λ number. number ≡ unwrap_or (get group_cmp numbers.old group) next) }
+    ensures put { IfOk result (λ number. HasNumber numbers.old numbers.new group number) }
+    ensures kept { OnErr result (numbers.new.entries ≡ numbers.old.entries) }
+{
+    Ok(*numbers.entry(group)?.or_insert(next))
+}
+
 impl GroupList {
     /// No groups.
     pub fn new(alloc: Global) -> GroupList
@@ -40,16 +51,16 @@ impl GroupList {
         }
     }
 
-    // The number of a group, if it is one of these.
-    fn find(&self, group: &Group) -> Option<u32>
-        ensures { MatchOption result (list_any (is_same_group group.now) self.now ≡ false) (IsPlaceOf self.now group.now) }
+    // The number that was told last, if it is this group's.
+    fn told_last(&self, group: &Group) -> Option<u32>
+        ensures { IfSome result (IsPlaceOf self.now group.now) }
     {
         if let Some(last) = self.groups.get(self.last as usize) {
             if last == group {
                 return Some(self.last);
             }
         }
-        self.numbers.get(group).copied()
+        None
     }
 
     /// The number of a group, and whether the group is new, in which case it is put behind the others.
@@ -62,14 +73,16 @@ impl GroupList {
         ensures unique { IsDistinct is_same_group self.new }
         ensures err { OnErr result (self.new ≡ self.old) }
     {
-        if let Some(number) = self.find(&group) {
-            self.last = number;
+        if let Some(number) = self.told_last(&group) {
             return Ok((number, false));
         }
         self.groups.reserve(1)?;
-        let number = self.groups.len() as u32;
-        self.numbers.insert(group, number)?;
+        let next = self.groups.len() as u32;
+        let number = number_of(&mut self.numbers, group, next)?;
         self.last = number;
+        if number < next {
+            return Ok((number, false));
+        }
         self.groups.push(group).unwrap();
         Ok((number, true))
     }

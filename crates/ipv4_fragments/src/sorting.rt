@@ -2,6 +2,7 @@ ghost use Rattle.std.specs.Prelude.{◌≡◌, ℕ, ◌+◌, ◌-◌, ◌^◌, �
 ghost use Rattle.capture_terms.specs.declared.datagram.Piece.{Piece};
 ghost use Rattle.capture_terms.specs.declared.datagram.Kind.{Kind};
 ghost use Rattle.capture_terms.specs.declared.plan.Group.{Group};
+ghost use Rattle.capture_terms.specs.declared.plan.Task as declared;
 ghost use Rattle.capture_terms.specs.Kept.{class_behind, kept_piece};
 ghost use Rattle.capture_terms.specs.Plan.{task_of, task_at, IsClassifiable, IsPlan};
 ghost use Rattle.ipv4_fragments.specs.Groups.{Follows};
@@ -35,30 +36,37 @@ fn make_task(frame: u32, group: Option<u32>, piece: &Piece) -> Task
     }
 }
 
-// The class of a further frame, and its task.
+// Tells the class of a further frame, and adds its task, if it has one.
 fn settle(
     alloc: Global,
     groups: &mut Groups,
+    tasks: &mut Vec<Task>,
     number: u32,
     kind: &Kind,
-) -> Result<(Class, Option<Task>), AllocError>
+) -> Result<Class, AllocError>
     requires places { HasPlaces kind.now }
     requires few { length groups.old.known < 2 ^ 32 - 1 }
     requires long { vec_len groups.old.ranges ≡ length groups.old.known }
     ensures long { OnOk result (vec_len groups.new.ranges ≡ length groups.new.known) }
     ensures grows { length groups.new.known ≤ length groups.old.known + 1 }
     ensures extends { OnOk result ((extra : List Group) × (groups.new.known ≡ groups.old.known ++ extra)) }
-    ensures class { IfOk result (λ found. (kept : List Piece) → Follows groups.old kept → (found.0 ≡ class_behind kept kind.now) × Follows groups.new (kept ++ option_to_list (kept_piece found.0 kind.now))) }
-    ensures task { IfOk result (λ found. (more : List Group) → found.1 ≡ task_at (groups.new.known ++ more) number found.0 kind.now) }
+    ensures class { IfOk result (λ class. (kept : List Piece) → Follows groups.old kept → (class ≡ class_behind kept kind.now) × Follows groups.new (kept ++ option_to_list (kept_piece class kind.now))) }
+    ensures task { IfOk result (λ class. (task : Option declared.Task) × (tasks.new.items ≡ tasks.old.items ++ option_to_list task) × ((more : List Group) → task ≡ task_at (groups.new.known ++ more) number class kind.now)) }
 {
     match kind {
-        Kind::Other => Ok((Class::Other, None)),
-        Kind::Bad => Ok((Class::Bad, None)),
-        Kind::Cut => Ok((Class::Cut, None)),
-        Kind::Whole(piece) => Ok((Class::Whole, Some(make_task(number, None, piece)))),
+        Kind::Other => Ok(Class::Other),
+        Kind::Bad => Ok(Class::Bad),
+        Kind::Cut => Ok(Class::Cut),
+        Kind::Whole(piece) => {
+            tasks.push(make_task(number, None, piece))?;
+            Ok(Class::Whole)
+        }
         Kind::Fragment(piece) => match groups.keep(alloc, piece)? {
-            None => Ok((Class::Aside, None)),
-            Some(group) => Ok((Class::Kept, Some(make_task(number, Some(group), piece)))),
+            None => Ok(Class::Aside),
+            Some(group) => {
+                tasks.push(make_task(number, Some(group), piece))?;
+                Ok(Class::Kept)
+            }
         },
     }
 }
@@ -87,11 +95,8 @@ impl Sorting {
         ensures grows { length self.new.groups.known ≤ length self.old.groups.known + 1 }
         ensures holds { OnOk result ((kinds : List Kind) → number ≡ length kinds → Holds self.old kinds → Holds self.new (kinds ++ kind.now ∷ [])) }
     {
-        let (class, task) = settle(alloc, &mut self.groups, number, kind)?;
+        let class = settle(alloc, &mut self.groups, &mut self.tasks, number, kind)?;
         self.classes.push(class)?;
-        if let Some(task) = task {
-            self.tasks.push(task)?;
-        }
         Ok(())
     }
 }

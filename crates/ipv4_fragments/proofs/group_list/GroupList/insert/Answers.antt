@@ -1,33 +1,53 @@
-use Rattle.std.proofs.Common.{◌≡◌, ◌∷◌, [], ◌++◌, false, Some, sym, ◌∙◌, ap, arith, subst, List, length, ℕ}
+use Rattle.std.proofs.Common.{◌≡◌, ◌∷◌, [], ◌++◌, sym, ◌∙◌, ap, arith, subst, false, List, length, ℕ}
+use Rattle.std.specs.Prelude.{not}
 use Rattle.std.specs.List.{list_any}
-use Rattle.std.specs.BTreeMap.{Updates}
 use Rattle.std.proofs.lemmas.Grind.{common_steps}
 use Rattle.capture_terms.specs.declared.plan.Group.{Group}
 use Rattle.capture_terms.specs.Kept.{is_same_group}
-use Rattle.ipv4_fragments.specs.GroupList.{group_cmp, AreNumbered}
-use Rattle.ipv4_fragments.proofs.GroupNumbers.{first_none, numbered_more}
+use Rattle.ipv4_fragments.specs.GroupList.{AreNumbered, HasNumber}
+use Rattle.ipv4_fragments.proofs.GroupNumbers.{told_known, told_new, first_none, numbered_more}
 use Rattle.ipv4_fragments.proofs.group_list.GroupList.insert.Goals as goal
 use Rattle.ipv4_fragments.proofs.group_list.GroupList.insert.Goals.{After-unwrap}
 
-unknown : (c : After-unwrap) → list_any (is_same_group c.args.group) c.self.inside.groups.items ≡ false
-unknown c = ap (list_any (is_same_group c.args.group)) c.self.view_is ∙ c.in_default.ensures
+pub returns-then-number-next-clause-added : goal.returns-then-number-next-clause-added
+returns-then-number-next-clause-added c =
+    let next : c.len-next.result ≡ length c.self.inside.groups.items = grind (arith, common_steps) in
+    sym (ap not (told_known c.self.inside.numbers c.self.inside.groups.items c.args.self.now c.args.group c.in_ok-number.number c.len-next.result c.self.invariant c.self.view_is next c.in_ok-number.ensures.number c.if-number-next.true))
+
+pub returns-then-number-next-clause-keys : goal.returns-then-number-next-clause-keys
+returns-then-number-next-clause-keys c =
+    let next : c.len-next.result ≡ length c.self.inside.groups.items = grind (arith, common_steps) in
+    rw (told_known c.self.inside.numbers c.self.inside.groups.items c.args.self.now c.args.group c.in_ok-number.number c.len-next.result c.self.invariant c.self.view_is next c.in_ok-number.ensures.number c.if-number-next.true)
+    (c.reserve.ensures.items ∙ c.self.view_is)
+
+next : (c : After-unwrap) → c.len-next.result ≡ length c.self.inside.groups.items
+next c = grind (arith, common_steps)
+
+new : (c : After-unwrap) → (list_any (is_same_group c.args.group) c.self.inside.groups.items ≡ false) × (c.in_ok-number.number ≡ length c.self.inside.groups.items)
+new c = told_new c.self.inside.numbers c.self.inside.groups.items c.args.self.now c.args.group c.in_ok-number.number c.len-next.result c.self.invariant c.self.view_is (next c) c.in_ok-number.ensures.number c.if-number-next.false
 
 pushed : (c : After-unwrap) → c.push.new.self.items ≡ c.self.inside.groups.items ++ c.args.group ∷ []
 pushed c = c.push.ensures.items ∙ (rw c.unwrap.ensures (ap (λ (l : List Group). l ++ c.args.group ∷ []) c.reserve.ensures.items))
 
-number : (c : After-unwrap) → c.len-number.result ≡ length c.self.inside.groups.items
-number c = grind (arith, common_steps)
-
-more : (c : After-unwrap) → AreNumbered c.insert.new.self c.push.new.self.items
+more : (c : After-unwrap) → AreNumbered c.number_of.new.numbers c.push.new.self.items
 more c =
-    let put : Updates group_cmp c.self.inside.numbers c.insert.new.self c.args.group (Some (length c.self.inside.groups.items)) = subst (λ (n : ℕ). Updates group_cmp c.self.inside.numbers c.insert.new.self c.args.group (Some n)) (number c) c.in_ok-insert.ensures.updates in
-    subst (AreNumbered c.insert.new.self) (sym (pushed c)) (numbered_more c.self.inside.numbers c.insert.new.self c.self.inside.groups.items c.args.group c.self.invariant (unknown c) put)
+    let put : HasNumber c.self.inside.numbers c.number_of.new.numbers c.args.group (length c.self.inside.groups.items) = subst (λ (n : ℕ). HasNumber c.self.inside.numbers c.number_of.new.numbers c.args.group n) (new c).1 c.in_ok-number.ensures.put in
+    subst (AreNumbered c.number_of.new.numbers) (sym (pushed c)) (numbered_more c.self.inside.numbers c.number_of.new.numbers c.self.inside.groups.items c.args.group c.self.invariant (new c).0 put)
+
+unknown : (c : After-unwrap) → list_any (is_same_group c.args.group) c.args.self.now ≡ false
+unknown c = ap (list_any (is_same_group c.args.group)) (sym c.self.view_is) ∙ (new c).0
 
 pub invariant_of-self-2 : goal.invariant_of-self-2
 invariant_of-self-2 c = more c
 
+pub returns-clause-added : goal.returns-clause-added
+returns-clause-added c = sym (ap not (unknown c))
+
+pub returns-clause-keys : goal.returns-clause-keys
+returns-clause-keys c = rw (unknown c) (pushed c ∙ ap (λ (l : List Group). l ++ c.args.group ∷ []) c.self.view_is)
+
 pub returns-clause-index : goal.returns-clause-index
-returns-clause-index c = number c ∙ ap (length {A = Group}) c.self.view_is ∙ sym (first_none (is_same_group c.args.group) c.args.self.now c.args.group c.in_default.ensures)
+returns-clause-index c = (new c).1 ∙ ap (length {A = Group}) c.self.view_is ∙ sym (first_none (is_same_group c.args.group) c.args.self.now c.args.group (unknown c))
 
 pub returns-clause-unique : goal.returns-clause-unique
 returns-clause-unique c = (more c).differ

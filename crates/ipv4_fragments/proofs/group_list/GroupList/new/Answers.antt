@@ -1,5 +1,4 @@
-use Rattle.std.proofs.Common.{◌≡◌, [], sym, subst, List}
-use Rattle.capture_terms.specs.declared.plan.Group.{Group}
+use Rattle.std.proofs.Common.{sym, subst}
 use Rattle.ipv4_fragments.specs.GroupList.{AreNumbered}
 use Rattle.ipv4_fragments.proofs.GroupNumbers.{numbered_none}
 use Rattle.ipv4_fragments.proofs.group_list.GroupList.new.Goals as goal
