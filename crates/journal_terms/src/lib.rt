@@ -8,16 +8,16 @@ ghost use Rattle.journal_terms.specs.Worked.{WorkedJournals};
 
 /// Reading the text of a journal gives the journal back, whatever numbers below 2^64 and whatever calls it has,
 /// each with a reply of its call's kind.
-pub fn text_reads_back()
+pub fn text_reads_back_law()
     ensures { TextReadsBack }
 {}
 
 /// So two journals that have one text are one journal.
-pub fn one_text_one_journal()
+pub fn one_text_one_journal_law()
     ensures { OneTextOneJournal }
 {}
 
 /// The texts of three worked journals, among them one with each form of each call, are the stated lines.
-pub fn worked_journals_are_written()
+pub fn worked_journals_law()
     ensures { WorkedJournals }
 {}

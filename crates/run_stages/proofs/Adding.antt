@@ -5,7 +5,6 @@ use mathlib.Core.Logic.{dite}
 use native.Mathlib.Decide.{ℕ_discrete}
 use Rattle.serial_terms.specs.Counts.{times, with_at}
 use Rattle.serial_terms.specs.Serial.{Pool, Sequence, less}
-use Rattle.serial_terms.proofs.Basics.{with_at_same, with_at_other}
 use Rattle.run_stages.specs.Work.{Work, IsWhole, IsMember, IsComplete, IsSoundWork, group_word, head_of, task_item, group_item, task, end_of}
 use Rattle.run_stages.specs.Allowed.{new_bytes, new_total}
 use Rattle.run_stages.specs.Stages.{IsAdded, AllAdded, Stages, LeadThrough, chain_bytes, chain_total, chain_word}
@@ -13,6 +12,7 @@ use Rattle.run_stages.proofs.Counting.{zero_or, times_cons_same, times_cons_othe
 use Rattle.run_stages.proofs.Taking.{whole_no_member, one_group, taken_here, taken_other, taken_le, taken_held, still_added, was_added, some_held}
 use Rattle.run_stages.proofs.Matching.{lead_same}
 use Rattle.run_stages.proofs.Chains.{word_head, bytes_le, total_short, word_bytes, word_total, ready_complete, complete_ready}
+use Rattle.serial_terms.specs.Facts.{with_at_same, with_at_other}
 
 module _ {w : Work} {f : ℕ} {pool : Pool} {queue : Sequence} {words links : ℕ → Option ℕ} {log matched : List ℕ} {chain : ℕ → List ℕ} (g : Stages w f pool queue words links log matched chain) where
   -- ---- chains

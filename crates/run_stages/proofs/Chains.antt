@@ -4,10 +4,11 @@ use Rattle.std.specs.Prelude.{Option, Some, None}
 use mathlib.Core.Logic.{dite}
 use native.Mathlib.Decide.{ℕ_discrete}
 use Rattle.serial_terms.specs.Counts.{times, with_at}
-use Rattle.serial_terms.proofs.Basics.{with_at_same, with_at_other, if_true, if_false, bool_cases, true_or_false}
 use Rattle.run_stages.specs.Work.{Work, IsMember, IsComplete, IsSoundWork, task, end_of, total_below, group_bytes, is_some_of, group_word, head_of, bytes_of, total_of}
 use Rattle.run_stages.specs.Stages.{chain_bytes, chain_total}
 use Rattle.run_stages.proofs.Counting.{times_cons_more, total_same, total_le, parts_same, total_at, times_cons_same, times_cons_other}
+use Rattle.std.proofs.lemmas.Bool.{cond-true, cond-false, cases_Bool, true≢false}
+use Rattle.serial_terms.specs.Facts.{with_at_same, with_at_other}
 
 -- ---- group words
 
@@ -52,7 +53,7 @@ module _ (w : Work) where
   share h i = cond (is_some_of (task w i).group h) (task w i).size 0
 
   member_share : (h i : ℕ) → IsMember w h i → share h i ≡ (task w i).size
-  member_share h i m = if_true (is_some_of (task w i).group h) (task w i).size 0 (ap (λ (z : Option ℕ). is_some_of z h) m.belongs ∙ eq-eqb h h refl)
+  member_share h i m = cond-true (is_some_of (task w i).group h) (task w i).size 0 (ap (λ (z : Option ℕ). is_some_of z h) m.belongs ∙ eq-eqb h h refl)
 
   module _ (h : ℕ) (c : List ℕ) (members : (i : ℕ) → 0 < times i c → IsMember w h i) (once : (i : ℕ) → times i c ≤ 1) where
     weight_le : (i : ℕ) → weight c i ≤ share h i
@@ -77,7 +78,7 @@ module _ (w : Work) where
       where
         no_share : (i : ℕ) (o : Option ℕ) → (task w i).group ≡ o → (o ≡ Some h → ⊥) → share h i ≡ 0
         no_share i None e n = ap (λ (z : Option ℕ). cond (is_some_of z h) (task w i).size 0) e
-        no_share i (Some k) e n = ap (λ (z : Option ℕ). cond (is_some_of z h) (task w i).size 0) e ∙ if_false (eqb k h) (task w i).size 0 (ne_eqb k h (λ q. n (ap (λ (z : ℕ). Some z) q)))
+        no_share i (Some k) e n = ap (λ (z : Option ℕ). cond (is_some_of z h) (task w i).size 0) e ∙ cond-false (eqb k h) (task w i).size 0 (ne_eqb k h (λ q. n (ap (λ (z : ℕ). Some z) q)))
 
         same : (i : ℕ) → i < length w.tasks → weight c i ≡ share h i
         same i l = dite (ℕ_discrete (times i c) 0)
@@ -87,10 +88,10 @@ module _ (w : Work) where
   -- ---- the total of a chain
 
   total_last : (i : ℕ) (c : List ℕ) → (task w i).last ≡ true → chain_total w (i ∷ c) ≡ end_of w i
-  total_last i c e = if_true (task w i).last (end_of w i) (chain_total w c) e
+  total_last i c e = cond-true (task w i).last (end_of w i) (chain_total w c) e
 
   total_more : (i : ℕ) (c : List ℕ) → (task w i).last ≡ false → chain_total w (i ∷ c) ≡ chain_total w c
-  total_more i c e = if_false (task w i).last (end_of w i) (chain_total w c) e
+  total_more i c e = cond-false (task w i).last (end_of w i) (chain_total w c) e
 
   in_more : (x i : ℕ) (c : List ℕ) → 0 < times x c → 0 < times x (i ∷ c)
   in_more x i c l = let a = times_cons_more x i c in omega arith
@@ -101,16 +102,16 @@ module _ (w : Work) where
   total_ender (i ∷ c) n = ⊎_elim
       (λ y. (i, (let a = times_cons_same i i c refl in omega arith), y, total_last i c y))
       (λ y. let r = total_ender c (λ z. n (total_more i c y ∙ z)) in (r.0, in_more r.0 i c r.1, r.2, total_more i c y ∙ r.3))
-      (bool_cases (task w i).last)
+      (cases_Bool (task w i).last)
 
   -- the end of the chain's only last task is its total
   pub ender_total : (c : List ℕ) (e : ℕ) → 0 < times e c → (task w e).last ≡ true → ((j : ℕ) → 0 < times j c → (task w j).last ≡ true → j ≡ e) → chain_total w c ≡ end_of w e
   ender_total [] e l y only = absurd (omega arith)
   ender_total (i ∷ c) e l y only = ⊎_elim
       (λ z. total_last i c z ∙ ap (end_of w) (only i (let a = times_cons_same i i c refl in omega arith) z))
-      (λ z. let far : e ≢ i = λ q. true_or_false (task w i).last (ap (λ (x : ℕ). (task w x).last) (sym q) ∙ y) z in let a = times_cons_other e i c far in
+      (λ z. let far : e ≢ i = λ q. true≢false (sym (ap (λ (x : ℕ). (task w x).last) (sym q) ∙ y) ∙ z) in let a = times_cons_other e i c far in
       total_more i c z ∙ ender_total c e (omega arith) y (λ j m v. only j (in_more j i c m) v))
-      (bool_cases (task w i).last)
+      (cases_Bool (task w i).last)
 
   pub total_short : IsSoundWork w → (h : ℕ) (c : List ℕ) → ((i : ℕ) → 0 < times i c → IsMember w h i) → chain_total w c < 2 ^ 16
   total_short p h c members = dite (ℕ_discrete (chain_total w c) 0) (λ e. omega arith) (λ n. let r = total_ender c n in let s = p.short h r.0 (members r.0 r.1) in let e = r.3 in omega arith)

@@ -2,10 +2,10 @@
 use Rattle.std.proofs.Common.{◌≡◌, ◌≢◌, ℕ, zero, suc, ◌+◌, ◌<◌, ◌≤◌, cond, eqb, List, [], ◌∷◌, ◌++◌, ◌⊎◌, length, length-append, inl, inr, ⊎_elim, sym, refl, ap, ◌∙◌, subst, arith, eq-eqb, ne_eqb}
 use mathlib.Core.Logic.{dite}
 use native.Mathlib.Decide.{ℕ_discrete}
-use Rattle.serial_terms.specs.Counts.{times, with_at}
-use Rattle.serial_terms.proofs.Basics.{with_at_same, with_at_other, if_true, if_false}
-use Rattle.serial_terms.proofs.Pools.{times_append}
-use Rattle.run_stages.specs.Work.{total_below, numbers_from, task_item, group_item}
+use Rattle.serial_terms.specs.Counts.{numbers_from, times, with_at}
+use Rattle.run_stages.specs.Work.{total_below, task_item, group_item}
+use Rattle.std.proofs.lemmas.Bool.{cond-true, cond-false}
+use Rattle.serial_terms.specs.Facts.{with_at_same, with_at_other, times_append}
 
 -- ---- numbers
 
@@ -47,10 +47,10 @@ total_zero f (suc n) e i l = dite (ℕ_discrete i n) (λ y. subst (λ (z : ℕ).
 -- ---- lists
 
 pub times_cons_same : (x y : ℕ) (ys : List ℕ) → x ≡ y → times x (y ∷ ys) ≡ 1 + times x ys
-times_cons_same x y ys e = ap (λ (z : ℕ). z + times x ys) (if_true (eqb x y) 1 0 (eq-eqb x y e))
+times_cons_same x y ys e = ap (λ (z : ℕ). z + times x ys) (cond-true (eqb x y) 1 0 (eq-eqb x y e))
 
 pub times_cons_other : (x y : ℕ) (ys : List ℕ) → x ≢ y → times x (y ∷ ys) ≡ times x ys
-times_cons_other x y ys e = let a : times x (y ∷ ys) ≡ 0 + times x ys = ap (λ (z : ℕ). z + times x ys) (if_false (eqb x y) 1 0 (ne_eqb x y e)) in omega arith
+times_cons_other x y ys e = let a : times x (y ∷ ys) ≡ 0 + times x ys = ap (λ (z : ℕ). z + times x ys) (cond-false (eqb x y) 1 0 (ne_eqb x y e)) in omega arith
 
 pub times_cons_more : (x y : ℕ) (ys : List ℕ) → times x ys ≤ times x (y ∷ ys)
 times_cons_more x y ys = dite (ℕ_discrete x y) (λ e. let a = times_cons_same x y ys e in omega arith) (λ e. let a = times_cons_other x y ys e in omega arith)
@@ -86,13 +86,13 @@ total_add f g (suc n) = let a = total_add f g n in omega arith
 
 one_above : (x n : ℕ) → n ≤ x → total_below (λ i. cond (eqb i x) 1 0) n ≡ 0
 one_above x zero l = refl
-one_above x (suc n) l = let a = one_above x n (omega arith) in let b = if_false {A = ℕ} (eqb n x) 1 0 (ne_eqb n x (λ e. omega arith)) in omega arith
+one_above x (suc n) l = let a = one_above x n (omega arith) in let b = cond-false {A = ℕ} (eqb n x) 1 0 (ne_eqb n x (λ e. omega arith)) in omega arith
 
 one_at : (x n : ℕ) → x < n → total_below (λ i. cond (eqb i x) 1 0) n ≡ 1
 one_at x zero l = absurd (omega arith)
 one_at x (suc n) l = dite (ℕ_discrete n x)
-    (λ e. let a = one_above x n (omega arith) in let b = if_true {A = ℕ} (eqb n x) 1 0 (eq-eqb n x e) in omega arith)
-    (λ e. let a = one_at x n (omega arith) in let b = if_false {A = ℕ} (eqb n x) 1 0 (ne_eqb n x e) in omega arith)
+    (λ e. let a = one_above x n (omega arith) in let b = cond-true {A = ℕ} (eqb n x) 1 0 (eq-eqb n x e) in omega arith)
+    (λ e. let a = one_at x n (omega arith) in let b = cond-false {A = ℕ} (eqb n x) 1 0 (ne_eqb n x e) in omega arith)
 
 pub total_times : (xs : List ℕ) (n : ℕ) → ((i : ℕ) → 0 < times i xs → i < n) → total_below (λ i. times i xs) n ≡ length xs
 total_times [] n b = no_times n

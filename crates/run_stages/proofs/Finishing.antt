@@ -6,13 +6,13 @@ use mathlib.Core.Logic.{dite}
 use native.Mathlib.Decide.{ℕ_discrete}
 use Rattle.serial_terms.specs.Counts.{times}
 use Rattle.serial_terms.specs.Serial.{State}
-use Rattle.serial_terms.proofs.Pools.{times_append}
 use Rattle.run_stages.specs.Work.{Work, IsSoundWork, IsMember, given_count, task_item, group_item, item_values, values_of}
 use Rattle.run_stages.specs.Stages.{IsAdded, IsLawful, chain_word}
 use Rattle.run_stages.specs.Ends.{IsFinished, AreAllDatagrams, IsIncomplete}
 use Rattle.run_stages.specs.Laws.{FinishedFindsAll, FinishedKeepsIncomplete}
 use Rattle.run_stages.proofs.Counting.{zero_or, total_zero, times_cons_same, times_cons_other}
 use Rattle.run_stages.proofs.Matching.{values_append}
+use Rattle.serial_terms.specs.Facts.{times_append}
 
 -- ---- lists with the same numbers
 

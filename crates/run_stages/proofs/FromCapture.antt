@@ -15,8 +15,6 @@ use Rattle.rule_terms.specs.Rule.{Rule}
 use Rattle.inspection_terms.specs.Findings.{findings_in, all_findings}
 use Rattle.serial_terms.specs.Counts.{times}
 use Rattle.serial_terms.specs.Serial.{State}
-use Rattle.serial_terms.proofs.Basics.{append_nil, bool_cases}
-use Rattle.serial_terms.proofs.Pools.{times_append}
 use Rattle.run_stages.specs.Work.{Work, IsSoundWork, IsWhole, IsMember, IsComplete, task, task_item, group_item, item_values, values_of}
 use Rattle.run_stages.specs.Stages.{IsLawful}
 use Rattle.run_stages.specs.Ends.{IsFinished, AreAllDatagrams}
@@ -25,6 +23,9 @@ use Rattle.run_stages.proofs.Counting.{total_same, times_cons_same, times_cons_m
 use Rattle.run_stages.proofs.Matching.{task_item_values, group_item_values, values_append}
 use Rattle.run_stages.proofs.Finishing.{item_cases, same_values, finds_all, incomplete_alone}
 use Rattle.run_stages.proofs.FromTasks.{one_if, count_range, incomplete_iff, nth, nth_is, long, below, group_at, complete_passes, passes_complete}
+use Rattle.std.proofs.lemmas.Bool.{cases_Bool}
+use Rattle.std.proofs.lemmas.List.{append-nil}
+use Rattle.serial_terms.specs.Facts.{times_append}
 
 -- ---- lists with all datagrams have the same items
 
@@ -246,7 +247,7 @@ module _ (rules : List Rule) (bytes : List ℕ) (tasks : List Task) (groups : Li
         let inside : i < length tasks = omega (arith, o.1) in
         record { below = (let n = long rules bytes tasks groups in omega arith); alone = group_is i inside ∙ (ap (λ (z : ℕ). (get_or tasks z some).group) (sym same) ∙ o.3 some) };
     group = λ h c. group_times tasks h 0 tasks ∙ once_begun pairs h (complete_passes rules bytes tasks groups h c);
-    only_group = λ h l. ⊎_elim (λ e. passes_complete rules bytes tasks groups h e) (λ e. let z = never_begun h e in let a = group_times tasks h 0 tasks in absurd (omega arith)) (bool_cases (is_complete (members tasks h)));
+    only_group = λ h l. ⊎_elim (λ e. passes_complete rules bytes tasks groups h e) (λ e. let z = never_begun h e in let a = group_times tasks h 0 tasks in absurd (omega arith)) (cases_Bool (is_complete (members tasks h)));
   }
 
   -- ---- their values are the findings
@@ -263,11 +264,11 @@ module _ (rules : List Rule) (bytes : List ℕ) (tasks : List Task) (groups : Li
   head_values n t at = by_case t.group
     where
       of_group : (h : ℕ) (b : Bool) → values_of work (item_for n (Some h) (if b then Some (members tasks h) else None)) ≡ option_map_or (findings_in rules bytes) (if b then Some (members tasks h) else None) []
-      of_group h true = append_nil (item_values work (group_item h)) ∙ (group_item_values work h ∙ group_value h)
+      of_group h true = append-nil (item_values work (group_item h)) ∙ (group_item_values work h ∙ group_value h)
       of_group h false = refl
 
       by_case : (g : Option ℕ) → values_of work (item_for n g (begun tasks t g)) ≡ option_map_or (findings_in rules bytes) (begun tasks t g) []
-      by_case None = append_nil (item_values work (task_item n)) ∙ (task_item_values work n ∙ (task_value n ∙ ap (λ (o : Option Task). option_map_or (λ (u : Task). findings_in rules bytes (u ∷ [])) o []) at))
+      by_case None = append-nil (item_values work (task_item n)) ∙ (task_item_values work n ∙ (task_value n ∙ ap (λ (o : Option Task). option_map_or (λ (u : Task). findings_in rules bytes (u ∷ [])) o []) at))
       by_case (Some h) = of_group h (is_begun tasks h t)
 
   with_option : (o : Option (List Task)) (ds : List (List Task)) → flat_map (findings_in rules bytes) (cons_option o ds) ≡ option_map_or (findings_in rules bytes) o [] ++ flat_map (findings_in rules bytes) ds

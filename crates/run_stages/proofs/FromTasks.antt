@@ -4,7 +4,7 @@ use Rattle.std.specs.Prelude.{slice_get, Contains, filter, not, ◌&&◌, ◌==�
 use Rattle.std.specs.List.{range_with_len}
 use Rattle.std.specs.Option.{option_map_or}
 use Rattle.std.proofs.lemmas.Bool.Decides.{nat_tests}
-use Rattle.std.proofs.lemmas.Bool.{cases_lt}
+use Rattle.std.proofs.lemmas.Bool.{cases_lt, true≢false}
 use Rattle.std.proofs.lemmas.List.{get_or_default}
 use lib.ListN.{get_or-map, length-map}
 use Rattle.std.proofs.lemmas.List.Folds.{list_any_at}
@@ -21,11 +21,11 @@ use Rattle.capture_terms.proofs.PlanGroups.{member_of}
 use Rattle.capture_terms.proofs.PlanLaw.{member_group}
 use Rattle.rule_terms.specs.Rule.{Rule}
 use Rattle.serial_terms.specs.Counts.{times}
-use Rattle.serial_terms.proofs.Basics.{bool_cases, true_or_false}
 use Rattle.run_stages.specs.Work.{Work, TaskFacts, IsSoundWork, IsMember, IsComplete, task, end_of, group_bytes, is_some_of, total_below}
 use Rattle.run_stages.specs.Ends.{IsIncomplete}
 use Rattle.run_stages.specs.FromCapture.{facts_of, work_of}
 use Rattle.run_stages.proofs.Counting.{total_same, total_times, zero_or}
+use Rattle.std.proofs.lemmas.Bool.{cases_Bool, true≢false}
 
 -- ---- sums over a list, and over the numbers of its places
 
@@ -193,9 +193,9 @@ module _ (rules : List Rule) (bytes : List ℕ) (tasks : List Task) (groups : Li
   incomplete_iff h = (
     (λ n. (
       let l = n.below in let a = groups_are in omega arith,
-      ⊎_elim (λ e. absurd (n.lacking (passes_complete h e))) (λ e. e) (bool_cases (is_complete (members tasks h))),
+      ⊎_elim (λ e. absurd (n.lacking (passes_complete h e))) (λ e. e) (cases_Bool (is_complete (members tasks h))),
     )),
-    (λ n. record { below = (let l = n.0 in let a = groups_are in omega arith); lacking = λ c. true_or_false (is_complete (members tasks h)) (complete_passes h c) n.1 }),
+    (λ n. record { below = (let l = n.0 in let a = groups_are in omega arith); lacking = λ c. true≢false (sym (complete_passes h c) ∙ n.1) }),
   )
 
   pub incomplete_counted : (hs : List ℕ) → ((h : ℕ) → IsIncomplete w h → times h hs ≡ 1) → ((h : ℕ) → 0 < times h hs → IsIncomplete w h) → length hs ≡ incomplete tasks groups

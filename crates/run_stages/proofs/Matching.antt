@@ -5,26 +5,28 @@ use mathlib.Core.Logic.{dite}
 use native.Mathlib.Decide.{ℕ_discrete}
 use Rattle.serial_terms.specs.Counts.{times, with_at}
 use Rattle.serial_terms.specs.Serial.{Pool, Sequence}
-use Rattle.serial_terms.proofs.Basics.{with_at_same, with_at_other, if_true, if_false, append_nil}
 use Rattle.run_stages.specs.Work.{Work, IsWhole, IsComplete, given_count, task_item, group_item, item_values, values_of}
 use Rattle.run_stages.specs.Stages.{AllAdded, Stages, LeadThrough, chain_word}
 use Rattle.run_stages.proofs.Counting.{zero_or, times_cons_same, times_cons_other, times_push_same, times_push_other, task_items, group_items, task_no_group}
 use Rattle.run_stages.proofs.Taking.{one_group}
+use Rattle.std.proofs.lemmas.Bool.{cond-true, cond-false}
+use Rattle.std.proofs.lemmas.List.{append-nil}
+use Rattle.serial_terms.specs.Facts.{with_at_same, with_at_other}
 
 pub task_item_values : (w : Work) (i : ℕ) → item_values w (task_item i) ≡ w.task_values i
 task_item_values w i = let even : 2 * i % 2 ≡ 0 = omega arith in let half : 2 * i / 2 ≡ i = omega arith in
-    if_true (eqb (2 * i % 2) 0) (w.task_values (2 * i / 2)) (w.group_values (2 * i / 2)) (eq-eqb (2 * i % 2) 0 even) ∙ ap w.task_values half
+    cond-true (eqb (2 * i % 2) 0) (w.task_values (2 * i / 2)) (w.group_values (2 * i / 2)) (eq-eqb (2 * i % 2) 0 even) ∙ ap w.task_values half
 
 pub group_item_values : (w : Work) (h : ℕ) → item_values w (group_item h) ≡ w.group_values h
 group_item_values w h = let odd : (2 * h + 1) % 2 ≢ 0 = omega arith in let half : (2 * h + 1) / 2 ≡ h = omega arith in
-    if_false (eqb ((2 * h + 1) % 2) 0) (w.task_values ((2 * h + 1) / 2)) (w.group_values ((2 * h + 1) / 2)) (ne_eqb ((2 * h + 1) % 2) 0 odd) ∙ ap w.group_values half
+    cond-false (eqb ((2 * h + 1) % 2) 0) (w.task_values ((2 * h + 1) / 2)) (w.group_values ((2 * h + 1) / 2)) (ne_eqb ((2 * h + 1) % 2) 0 odd) ∙ ap w.group_values half
 
 pub values_append : (w : Work) (xs ys : List ℕ) → values_of w (xs ++ ys) ≡ values_of w xs ++ values_of w ys
 values_append w [] ys = refl
 values_append w (x ∷ xs) ys = ap (λ (z : List ℕ). item_values w x ++ z) (values_append w xs ys) ∙ sym (append_assoc (item_values w x) (values_of w xs) (values_of w ys))
 
 pub values_push : (w : Work) (xs : List ℕ) (x : ℕ) → values_of w (xs ++ x ∷ []) ≡ values_of w xs ++ item_values w x
-values_push w xs x = values_append w xs (x ∷ []) ∙ ap (λ (z : List ℕ). values_of w xs ++ z) (append_nil (item_values w x))
+values_push w xs x = values_append w xs (x ∷ []) ∙ ap (λ (z : List ℕ). values_of w xs ++ z) (append-nil (item_values w x))
 
 -- links that agree along a chain lead through it alike
 pub lead_same : (w : Work) (links more : ℕ → Option ℕ) (is : List ℕ) → ((j : ℕ) → 0 < times j is → more j ≡ links j) → LeadThrough w links is → LeadThrough w more is

@@ -1,12 +1,13 @@
 -- The opening.
 use Rattle.std.proofs.Common.{◌≡◌, ℕ, ◌<◌, ◌≤◌, [], length, inr, ⊎_elim, sym, refl, ◌∙◌, arith}
-use Rattle.serial_terms.specs.Counts.{times}
+use Rattle.serial_terms.specs.Counts.{numbers_from, times}
 use Rattle.serial_terms.specs.Stores.{opening_of}
-use Rattle.run_stages.specs.Work.{Work, given_count, numbers_from}
+use Rattle.run_stages.specs.Work.{Work, given_count}
 use Rattle.run_stages.specs.Stages.{IsAdded, IsLawful}
 use Rattle.run_stages.specs.Opening.{layout_of, opening}
 use Rattle.run_stages.specs.Laws.{OpeningIsLawful}
 use Rattle.run_stages.proofs.Counting.{below_or, total_times, numbers_length, times_numbers, times_no_numbers}
+use Rattle.serial_terms.specs.RunLayout.{layout_by}
 
 module _ (w : Work) (findings : ℕ) where
   n : ℕ
@@ -22,11 +23,11 @@ module _ (w : Work) (findings : ℕ) where
   at_most_once i = ⊎_elim (λ m. let x = once_pooled i m in omega arith) (λ m. let x = times_no_numbers i 0 (given_count w 0) (inr (omega arith)) in omega arith) (below_or i (given_count w 0))
 
   none_added : (h i : ℕ) → IsAdded w 0 ((opening w findings).pools 0) h i → ⊥
-  unfolding opening_of layout_of
+  unfolding opening_of layout_by
   none_added h i a = let x = once_pooled i a.given in let y = a.taken in omega arith
 
   pub opens : IsLawful w (opening w findings)
-  unfolding opening_of layout_of
+  unfolding opening_of layout_by
   opens = record {
     matched = [];
     chain = λ h. [];

@@ -11,13 +11,15 @@ use Rattle.serial_terms.specs.declared.call.Done.{Done}
 use Rattle.serial_terms.specs.Counts.{times, with_at}
 use Rattle.serial_terms.specs.Histories.{Runs}
 use Rattle.serial_terms.specs.Serial.{State, Pool, after, found, first, more, put_log, put_pool, put_queue}
-use Rattle.serial_terms.proofs.Basics.{with_at_own, with_at_twice, with_at_same, with_at_other, if_true, if_false, append_nil}
 use Rattle.run_stages.specs.Work.{Work, group_item}
 use Rattle.run_stages.specs.Allowed.{Appends, gives, ready, walk}
 use Rattle.run_stages.specs.Stages.{LeadThrough}
 use Rattle.run_stages.proofs.Counting.{times_cons_more, times_cons_same, times_cons_other}
 use Rattle.run_stages.proofs.Filling.{pool_with}
 use Rattle.run_stages.proofs.Matching.{lead_same}
+use Rattle.std.proofs.lemmas.Bool.{cond-true, cond-false}
+use Rattle.std.proofs.lemmas.List.{append-nil}
+use Rattle.serial_terms.specs.Facts.{with_at_own, with_at_twice, with_at_same, with_at_other}
 
 -- ---- replies
 
@@ -37,7 +39,7 @@ first_value x (y ∷ ys) e = let z : y ≡ x = cc in (ys, ap (λ (n : ℕ). n �
 -- ---- values appended to log 0
 
 pub appends_run : (w : Work) (vs : List ℕ) (ds : List Done) (s t : State) → Appends w vs ds → Runs s ds t → put_log s 0 ((s.logs 0).items ++ vs) ≡ t
-appends_run w [] [] s t a r = let e : with_at s.logs 0 (record { items = (s.logs 0).items ++ []; capacity = (s.logs 0).capacity }) ≡ s.logs = ap (with_at s.logs 0) (λ i. record { items = append_nil (s.logs 0).items i; capacity = (s.logs 0).capacity }) ∙ with_at_own s.logs 0 in (λ i. record s { logs = e i }) ∙ r
+appends_run w [] [] s t a r = let e : with_at s.logs 0 (record { items = (s.logs 0).items ++ []; capacity = (s.logs 0).capacity }) ≡ s.logs = ap (with_at s.logs 0) (λ i. record { items = append-nil (s.logs 0).items i; capacity = (s.logs 0).capacity }) ∙ with_at_own s.logs 0 in (λ i. record s { logs = e i }) ∙ r
 appends_run w [] (d ∷ ds) s t a r = absurd a
 appends_run w (v ∷ vs) [] s t a r = absurd a
 appends_run w (v ∷ vs) (d ∷ ds) s t a r =
@@ -49,27 +51,47 @@ appends_run w (v ∷ vs) (d ∷ ds) s t a r =
 
 -- ---- tasks given to pool 0
 
-pub gives_run : (w : Work) (xs : List ℕ) (s t : State) → (s.pools 0).held ≤ (s.pools 0).slots → Runs s (gives w xs) t → (put_pool s 0 (pool_with (s.pools 0) xs) ≡ t) × ((s.pools 0).held + length xs ≤ (s.pools 0).slots)
-gives_run w [] s t l r = let p : pool_with (s.pools 0) [] ≡ s.pools 0 = nothing_more (s.pools 0) in let e : with_at s.pools 0 (pool_with (s.pools 0) []) ≡ s.pools = ap (with_at s.pools 0) p ∙ with_at_own s.pools 0 in ((λ i. record s { pools = e i }) ∙ r, omega arith)
+nothing_more : (p : Pool) → pool_with p [] ≡ p
+nothing_more p = let c : (λ i. p.count i + 0) ≡ p.count = fun_ext (λ i. omega arith) in let h : p.held + 0 ≡ p.held = omega arith in λ i. record { count = c i; held = h i; slots = p.slots }
+
+one_more : (p : Pool) (x : ℕ) (xs : List ℕ) → pool_with (more p x) xs ≡ pool_with p (x ∷ xs)
+one_more p x xs = let c = fun_ext count_one in let h : p.held + 1 + length xs ≡ p.held + length (x ∷ xs) = omega arith in λ i. record { count = c i; held = h i; slots = p.slots }
   where
-    nothing_more : (p : Pool) → pool_with p [] ≡ p
-    nothing_more p = let c : (λ i. p.count i + 0) ≡ p.count = fun_ext (λ i. omega arith) in let h : p.held + 0 ≡ p.held = omega arith in λ i. record { count = c i; held = h i; slots = p.slots }
+    count_one : (i : ℕ) → with_at p.count x (p.count x + 1) i + times i xs ≡ p.count i + times i (x ∷ xs)
+    count_one i = dite (ℕ_discrete i x)
+        (λ e. let a = with_at_same p.count x (p.count x + 1) i e in let b = times_cons_same i x xs e in let c = ap p.count e in omega arith)
+        (λ e. let a = with_at_other p.count x (p.count x + 1) i e in let b = times_cons_other i x xs e in omega arith)
+
+-- the state with these items more in pool 0
+abbrev pub given_to : State → List ℕ → State
+given_to s xs = put_pool s 0 (pool_with (s.pools 0) xs)
+
+none_given : (s : State) → given_to s [] ≡ s
+none_given s = let e : with_at s.pools 0 (pool_with (s.pools 0) []) ≡ s.pools = ap (with_at s.pools 0) (nothing_more (s.pools 0)) ∙ with_at_own s.pools 0 in λ i. record s { pools = e i }
+
+more_given : (s : State) (x : ℕ) (xs : List ℕ) → given_to (put_pool s 0 (more (s.pools 0) x)) xs ≡ given_to s (x ∷ xs)
+more_given s x xs =
+    let twice : with_at (with_at s.pools 0 (more (s.pools 0) x)) 0 (pool_with (more (s.pools 0) x) xs) ≡ with_at s.pools 0 (pool_with (s.pools 0) (x ∷ xs)) = with_at_twice s.pools 0 _ _ ∙ ap (with_at s.pools 0) (one_more (s.pools 0) x xs) in
+    λ i. record s { pools = twice i }
+
+pub gives_run : (w : Work) (xs : List ℕ) (s t : State) → (s.pools 0).held ≤ (s.pools 0).slots → Runs s (gives w xs) t → (given_to s xs ≡ t) × ((s.pools 0).held + length xs ≤ (s.pools 0).slots)
+gives_run w [] s t l r = (none_given s ∙ r, omega arith)
 gives_run w (x ∷ xs) s t l r =
     let there : (s.pools 0).held < (s.pools 0).slots = below (s.pools 0).held (s.pools 0).slots r.0 in
     let i = gives_run w xs (put_pool s 0 (more (s.pools 0) x)) t (omega arith) r.1 in
-    let twice : with_at s.pools 0 (pool_with (s.pools 0) (x ∷ xs)) ≡ with_at (with_at s.pools 0 (more (s.pools 0) x)) 0 (pool_with (more (s.pools 0) x) xs) = ap (with_at s.pools 0) (sym (one_more (s.pools 0))) ∙ sym (with_at_twice s.pools 0 _ _) in
-    let m = i.1 in ((λ j. record s { pools = twice j }) ∙ i.0, omega arith)
+    let m = i.1 in (sym (more_given s x xs) ∙ i.0, omega arith)
   where
     below : (a b : ℕ) → Flag true ≡ Flag (ltb a b) → a < b
     below a b e = let z : true ≡ ltb a b = cc in grind (arith, nat_tests)
 
-    count_one : (p : Pool) (i : ℕ) → with_at p.count x (p.count x + 1) i + times i xs ≡ p.count i + times i (x ∷ xs)
-    count_one p i = dite (ℕ_discrete i x)
-        (λ e. let a = with_at_same p.count x (p.count x + 1) i e in let b = times_cons_same i x xs e in let c = ap p.count e in omega arith)
-        (λ e. let a = with_at_other p.count x (p.count x + 1) i e in let b = times_cons_other i x xs e in omega arith)
-
-    one_more : (p : Pool) → pool_with (more p x) xs ≡ pool_with p (x ∷ xs)
-    one_more p = let c = fun_ext (count_one p) in let h : p.held + 1 + length xs ≡ p.held + length (x ∷ xs) = omega arith in λ i. record { count = c i; held = h i; slots = p.slots }
+-- where there is room, they can all be given
+pub gives_fit : (w : Work) (xs : List ℕ) (s : State) → (s.pools 0).held + length xs ≤ (s.pools 0).slots → Runs s (gives w xs) (given_to s xs)
+gives_fit w [] s l = sym (none_given s)
+gives_fit w (x ∷ xs) s l = let i = gives_fit w xs (put_pool s 0 (more (s.pools 0) x)) (omega arith) in
+    (ap (λ (z : _). Flag z) (sym (below (s.pools 0).held (s.pools 0).slots (omega arith))), subst (Runs (put_pool s 0 (more (s.pools 0) x)) (gives w xs)) (more_given s x xs) i)
+  where
+    below : (a b : ℕ) → a < b → ltb a b ≡ true
+    below a b m = grind (arith, nat_tests)
 
 -- ---- a group's item is put into queue 0, or not
 
@@ -77,9 +99,9 @@ pub ready_run : (w : Work) (h bytes total : ℕ) (s t : State) → Runs s (ready
     → ((bytes ≡ total) × (total ≢ 0) × (put_queue s 0 ((s.queues 0).items ++ group_item h ∷ []) ≡ t)) ⊎ ((bytes ≡ total → total ≢ 0 → ⊥) × (s ≡ t))
 ready_run w h bytes total s t r = dite (ℕ_discrete bytes total)
     (λ e. dite (ℕ_discrete total 0)
-    (λ z. inr ((λ _ n. n z), subst (λ (x : List Done). Runs s x t) (if_true (eqb bytes total) _ _ (eq-eqb bytes total e) ∙ if_true (eqb total 0) _ _ (eq-eqb total 0 z)) r))
-    (λ n. inl (e, n, (subst (λ (x : List Done). Runs s x t) (if_true (eqb bytes total) _ _ (eq-eqb bytes total e) ∙ if_false (eqb total 0) _ _ (ne_eqb total 0 n)) r).1)))
-    (λ n. inr ((λ e _. n e), subst (λ (x : List Done). Runs s x t) (if_false (eqb bytes total) _ _ (ne_eqb bytes total n)) r))
+    (λ z. inr ((λ _ n. n z), subst (λ (x : List Done). Runs s x t) (cond-true (eqb bytes total) _ _ (eq-eqb bytes total e) ∙ cond-true (eqb total 0) _ _ (eq-eqb total 0 z)) r))
+    (λ n. inl (e, n, (subst (λ (x : List Done). Runs s x t) (cond-true (eqb bytes total) _ _ (eq-eqb bytes total e) ∙ cond-false (eqb total 0) _ _ (ne_eqb total 0 n)) r).1)))
+    (λ n. inr ((λ e _. n e), subst (λ (x : List Done). Runs s x t) (cond-false (eqb bytes total) _ _ (ne_eqb bytes total n)) r))
 
 -- ---- the walk along a group's links
 

@@ -6,9 +6,8 @@ use Rattle.serial_terms.specs.declared.call.Reply.TheVariants.{Nothing, Value}
 use Rattle.serial_terms.specs.declared.call.Done.{Done}
 use Rattle.serial_terms.specs.Counts.{times, with_at}
 use Rattle.serial_terms.specs.Histories.{Runs}
-use Rattle.serial_terms.specs.Serial.{put_log, State, less, put_map, put_queue, put_cell, rest, IsReplied, step, outside, in_child}
-use Rattle.serial_terms.proofs.Basics.{with_at_same, with_at_other, with_at_own}
-use Rattle.serial_terms.proofs.Running.{run_split}
+use Rattle.serial_terms.specs.Serial.{put_log, State, less, put_map, put_queue, put_cell, rest, outside, in_child}
+use Rattle.serial_terms.specs.Laws.{RunsInParts}
 use Rattle.run_stages.specs.Work.{Work, IsSoundWork, IsWhole, IsMember, task_item, group_item, group_word, head_of}
 use Rattle.run_stages.specs.Allowed.{take_whole, take_fragment, match_whole, match_group, nothing_queued, nothing_pooled, fill, added, ready, walk, Appends, gives, next_batch, new_bytes, new_total, new_word}
 use Rattle.run_stages.specs.Stages.{Stages, IsLawful, LeadThrough, chain_bytes, chain_total, chain_word}
@@ -18,6 +17,7 @@ use Rattle.run_stages.proofs.Matching.{whole_matched, group_matched, lead_same}
 use Rattle.run_stages.proofs.Adding.{heads, chain_once, not_chained, not_linked, bytes_now, total_now, ready_if, ready_then, fragment_added, IsReady}
 use Rattle.run_stages.proofs.Filling.{filled}
 use Rattle.run_stages.proofs.Runs.{found_same, found_value, first_value, appends_run, gives_run, ready_run, walk_run, with_links}
+use Rattle.serial_terms.specs.Facts.{with_at_same, with_at_other, with_at_own}
 
 no_chain : (w : Work) (c : List ℕ) → chain_word w c ≡ None → c ≡ []
 no_chain w [] e = refl
@@ -40,15 +40,15 @@ module _ (w : Work) (p : IsSoundWork w) (s : State) (l : IsLawful w s) where
         stages = whole_matched l.stages (rest (s.queues 0).items) i (q.1 ∙ ap (λ (z : List ℕ). task_item i ∷ z) (sym (ap rest q.1)));
       })
 
-  matched_group : (h x : ℕ) (before : List ℕ) (more : List Done) (t : State) → Appends w (w.group_values h) more
+  matched_group : RunsInParts → (h x : ℕ) (before : List ℕ) (more : List Done) (t : State) → Appends w (w.group_values h) more
       → Runs s (outside (Dequeue 0) (Value (group_item h)) ∷ outside (MapGet 0 h) (Value x) ∷ outside (MapRemove 0 h) Nothing ∷ (walk w (head_of x) before ++ more)) t → IsLawful w t
-  matched_group h x before more t a r =
+  matched_group parts h x before more t a r =
       let g = l.stages in
       let q = first_value (group_item h) (s.queues 0).items r.0 in
       let c = heads g p h x (found_value x (s.maps 0 h) r.1.0) in
       let once : (j : ℕ) → times j (head_of x ∷ c.0) ≤ 1 = λ j. (let o = chain_once g h j in let b = ap (times j) c.1 in omega arith) in
       let u : State = put_map (put_queue s 0 (rest (s.queues 0).items)) 0 h None in
-      let two = run_split IsReplied step (walk w (head_of x) before) more u t r.1.1.1 in
+      let two = (parts (walk w (head_of x) before) more u t).0 r.1.1.1 in
       let v = walk_run w c.0 (head_of x) before u two.0 (subst (LeadThrough w (s.maps 1)) c.1 (g.lead h)) once two.1 in
       let e = appends_run w (w.group_values h) more (with_links u v.fewer) t a (subst (λ (z : State). Runs z more t) (sym v.state) two.2) in
       subst (IsLawful w) {x = put_log (with_links u v.fewer) 0 ((s.logs 0).items ++ w.group_values h)} e (record {
@@ -136,11 +136,11 @@ module _ (w : Work) (p : IsSoundWork w) (s : State) (l : IsLawful w s) where
         ) in
         then_ready (Some x) e (with_at (s.maps 1) i (Some (head_of x))) lead (λ j n. with_at_other (s.maps 1) i (Some (head_of x)) j n) t r.1.1.1.1
 
-pub steps : AllowedKeepsLawful
-steps w p ds (take_whole i a e) s t l r = took_whole w p s l i t a (subst (λ (z : List Done). Runs s z t) e r)
-steps w p ds (take_fragment h i old m e) s t l r = let x = subst (λ (z : List Done). Runs s z t) e r in took_fragment w p s l h i m x.0 old t x
-steps w p ds (match_whole i more a v e) s t l r = matched_whole w p s l i more t v (subst (λ (z : List Done). Runs s z t) e r)
-steps w p ds (match_group h x before more b v e) s t l r = matched_group w p s l h x before more t v (subst (λ (z : List Done). Runs s z t) e r)
-steps w p ds (nothing_queued e) s t l r = subst (IsLawful w) (subst (λ (z : List Done). Runs s z t) e r).1 l
-steps w p ds (nothing_pooled e) s t l r = subst (IsLawful w) (subst (λ (z : List Done). Runs s z t) e r).1 l
-steps w p ds (fill f short e) s t l r = filled_up w p s l f t short (subst (λ (z : List Done). Runs s z t) e r)
+pub steps : RunsInParts → AllowedKeepsLawful
+steps parts w p ds (take_whole i a e) s t l r = took_whole w p s l i t a (subst (λ (z : List Done). Runs s z t) e r)
+steps parts w p ds (take_fragment h i old m e) s t l r = let x = subst (λ (z : List Done). Runs s z t) e r in took_fragment w p s l h i m x.0 old t x
+steps parts w p ds (match_whole i more a v e) s t l r = matched_whole w p s l i more t v (subst (λ (z : List Done). Runs s z t) e r)
+steps parts w p ds (match_group h x before more b v e) s t l r = matched_group w p s l parts h x before more t v (subst (λ (z : List Done). Runs s z t) e r)
+steps parts w p ds (nothing_queued e) s t l r = subst (IsLawful w) (subst (λ (z : List Done). Runs s z t) e r).1 l
+steps parts w p ds (nothing_pooled e) s t l r = subst (IsLawful w) (subst (λ (z : List Done). Runs s z t) e r).1 l
+steps parts w p ds (fill f short e) s t l r = filled_up w p s l f t short (subst (λ (z : List Done). Runs s z t) e r)

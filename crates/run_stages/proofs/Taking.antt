@@ -5,10 +5,10 @@ use mathlib.Core.Logic.{dite}
 use native.Mathlib.Decide.{ℕ_discrete}
 use Rattle.serial_terms.specs.Counts.{times}
 use Rattle.serial_terms.specs.Serial.{Pool, Sequence, less}
-use Rattle.serial_terms.proofs.Basics.{with_at_same, with_at_other}
 use Rattle.run_stages.specs.Work.{Work, IsWhole, IsMember, given_count, total_below, task_item, group_item}
 use Rattle.run_stages.specs.Stages.{IsAdded, Stages}
 use Rattle.run_stages.proofs.Counting.{total_at, times_push_same, times_push_other, push_length, task_items, task_no_group}
+use Rattle.serial_terms.specs.Facts.{with_at_same, with_at_other}
 
 -- a whole task is no group's
 pub whole_no_member : (w : Work) (h i : ℕ) → IsWhole w i → IsMember w h i → ⊥

@@ -8,8 +8,6 @@ use Rattle.serial_terms.specs.Counts.{times, with_at}
 use Rattle.serial_terms.specs.Entries.{by_caller}
 use Rattle.serial_terms.specs.Histories.{Runs}
 use Rattle.serial_terms.specs.Serial.{State, found, first, rest, put_map, put_queue}
-use Rattle.serial_terms.proofs.Basics.{with_at_other, if_true, if_false}
-use Rattle.serial_terms.proofs.Pools.{times_append}
 use Rattle.run_stages.specs.Work.{Work, IsSoundWork, IsWhole, IsMember, IsComplete, total_below, task_item, group_item, group_word, item_values, values_of, head_of}
 use Rattle.run_stages.specs.Allowed.{walk}
 use Rattle.run_stages.specs.Ends.{AreAllDatagrams, all_tasks_taken, all_items_taken}
@@ -22,6 +20,8 @@ use Rattle.run_stages.proofs.Adding.{heads, chain_members, chain_once, bytes_now
 use Rattle.run_stages.proofs.Finishing.{around, item_cases}
 use Rattle.run_stages.proofs.Matching.{values_append, lead_same}
 use Rattle.run_stages.proofs.Runs.{found_same, found_value, first_value}
+use Rattle.std.proofs.lemmas.Bool.{cond-true, cond-false}
+use Rattle.serial_terms.specs.Facts.{with_at_other, times_append}
 
 pub taken_task : TakenIsTask
 taken_task w s l i there = let h = some_held l.stages i there in
@@ -171,5 +171,5 @@ log_within w s l items a = (log_part w s l items a, next_part w s l items a)
 pub takes_less : OneCallerTakesLess
 takes_less k [] = (omega arith, omega arith)
 takes_less k (e ∷ es) = let i = takes_less k es in let x = i.0 in let y = i.1 in dite (ℕ_discrete e.caller k)
-    (λ q. let z = if_true (eqb e.caller k) (e ∷ by_caller k es) (by_caller k es) (eq-eqb e.caller k q) in let a = ap all_tasks_taken z in let b = ap all_items_taken z in (omega arith, omega arith))
-    (λ q. let z = if_false (eqb e.caller k) (e ∷ by_caller k es) (by_caller k es) (ne_eqb e.caller k q) in let a = ap all_tasks_taken z in let b = ap all_items_taken z in (omega arith, omega arith))
+    (λ q. let z = cond-true (eqb e.caller k) (e ∷ by_caller k es) (by_caller k es) (eq-eqb e.caller k q) in let a = ap all_tasks_taken z in let b = ap all_items_taken z in (omega arith, omega arith))
+    (λ q. let z = cond-false (eqb e.caller k) (e ∷ by_caller k es) (by_caller k es) (ne_eqb e.caller k q) in let a = ap all_tasks_taken z in let b = ap all_items_taken z in (omega arith, omega arith))

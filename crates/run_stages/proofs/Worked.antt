@@ -1,22 +1,22 @@
 -- The worked runs.
-use Rattle.std.proofs.Common.{◌≡◌, ℕ, zero, suc, ◌+◌, ◌<◌, ◌≤◌, true, [], ◌∷◌, sym, refl, ap, ◌∙◌, subst, arith, cond, eqb, ne_eqb, lit<, lit≤}
+use Rattle.std.proofs.Common.{◌≡◌, ℕ, zero, suc, ◌+◌, ◌<◌, ◌≤◌, true, List, [], ◌∷◌, sym, refl, ap, ◌∙◌, subst, arith, cond, eqb, ne_eqb, lit<, lit≤}
 use Rattle.std.specs.Prelude.{Some, None}
+use Rattle.std.proofs.lemmas.Bool.{cond-false}
 use mathlib.Core.Logic.{dite}
 use native.Mathlib.Decide.{ℕ_discrete}
-use Rattle.serial_terms.specs.Entries.{Each}
-use Rattle.serial_terms.specs.Histories.{IsLegalHistory}
-use Rattle.serial_terms.specs.Serial.{less, in_child}
-use Rattle.serial_terms.specs.Stores.{opening_of}
-use Rattle.serial_terms.proofs.Showing.{in_order, all_apart}
-use Rattle.run_stages.specs.Work.{IsSoundWork, IsWhole, IsMember, task, end_of, group_bytes}
 use Rattle.serial_terms.specs.declared.call.Call.TheVariants.{AppendPlaced}
 use Rattle.serial_terms.specs.declared.call.Reply.TheVariants.{Value}
-use Rattle.serial_terms.proofs.Basics.{if_false}
+use Rattle.serial_terms.specs.declared.store.Layout.{Layout}
+use Rattle.serial_terms.specs.Entries.{Each}
+use Rattle.serial_terms.specs.Serial.{in_child}
+use Rattle.serial_terms.specs.Stores.{state_of}
+use Rattle.serial_terms.specs.Worked.{WorkedHistories, one_frame_records, two_fragments_records, found_alone}
+use Rattle.run_stages.specs.Work.{IsSoundWork, IsWhole, IsMember, task, end_of, group_bytes}
 use Rattle.run_stages.specs.Allowed.{IsAllowed, take_whole, take_fragment, match_whole, match_group, nothing_queued, nothing_pooled}
-use Rattle.run_stages.specs.Opening.{opening, layout_of}
-use Rattle.run_stages.specs.Worked.{one_frame, one_frame_records, two_fragments, two_fragments_records, IsWholeRun, WorkedRuns}
-use Rattle.run_stages.proofs.Bounds.{end_lawful}
-use Rattle.serial_terms.proofs.Stepping.{opening_within, queue_within, log_within, pool_within, AreLegal, legal, after_records, counted_alone}
+use Rattle.run_stages.specs.Ends.{IsFinished}
+use Rattle.run_stages.specs.Laws.{RunsEndLawful}
+use Rattle.run_stages.specs.Opening.{layout_of}
+use Rattle.run_stages.specs.Worked.{one_frame, two_fragments, IsWholeRun, WorkedRuns}
 
 one_group : (i : ℕ) → (task one_frame i).group ≡ None
 one_group zero = refl
@@ -51,64 +51,6 @@ one_frame_allowed = (
   ),
 )
 
-one_frame_legal : AreLegal (opening one_frame 65536) one_frame_records
-unfolding opening_of layout_of
-one_frame_legal =
-    let c0 = opening_within (layout_of one_frame 65536) in
-    let c1 = queue_within _ 0 (0 ∷ []) (pool_within _ 0 (less ((opening one_frame 65536).pools 0) 0) c0) (lit≤ tt) in
-    let c2 = log_within _ 0 (8 ∷ []) (queue_within _ 0 [] c1 (lit≤ tt)) (lit≤ tt) in (
-      (refl, tt),
-      c0,
-      (λ _. refl),
-      (
-        (lit< tt, (refl, tt)),
-        c1,
-        (λ e. absurd (cc)),
-        (
-          (refl, (refl, tt)),
-          c2,
-          (λ e. absurd (cc)),
-          (
-            (refl, tt),
-            c2,
-            (λ _. refl),
-            (
-              (refl, tt),
-              c2,
-              (λ _. refl),
-              (
-                (refl, tt),
-                c2,
-                (λ _. refl),
-                ((refl, tt), c2, (λ _. refl), tt),
-              ),
-            ),
-          ),
-        ),
-      ),
-    )
-
-one_frame_history : IsLegalHistory (opening one_frame 65536) one_frame_records (after_records (opening one_frame 65536) one_frame_records)
-one_frame_history = record {
-  order = in_order one_frame_records refl;
-  run = legal one_frame_records (opening one_frame 65536) one_frame_legal;
-  counted = counted_alone one_frame_records (λ k n. (n, (n, (n, (n, (n, (n, (n, tt)))))))) (refl, (refl, (refl, (refl, (refl, (refl, (refl, tt)))))));
-  apart = all_apart one_frame_records refl;
-  placed = ((λ e. absurd (cc)), ((λ e. lit< tt), ((λ e. lit< tt), ((λ e. absurd (cc)), ((λ e. absurd (cc)), ((λ e. absurd (cc)), ((λ e. absurd (cc)), tt)))))));
-}
-
-one_frame_run : IsWholeRun one_frame 65536 one_frame_records (8 ∷ [])
-unfolding opening_of layout_of
-one_frame_run = record {
-  sound = one_frame_sound;
-  end = after_records (opening one_frame 65536) one_frame_records;
-  history = one_frame_history;
-  allowed = one_frame_allowed;
-  lawful = end_lawful one_frame one_frame_sound 65536 one_frame_records (after_records (opening one_frame 65536) one_frame_records) (record { run = one_frame_history.run; allowed = one_frame_allowed });
-  finished = record { pool = refl; queue = refl; given = lit≤ tt };
-  found = refl;
-}
-
 -- ---- two fragments
 
 two_groups : (i h : ℕ) → IsMember two_fragments h i → (i < 2) × (h ≡ 0)
@@ -133,7 +75,7 @@ last_is_first (suc zero) l e = absurd (cc)
 last_is_first (suc (suc i)) l e = absurd (omega arith)
 
 two_bytes : (h : ℕ) → group_bytes two_fragments h ≤ 12
-two_bytes h = dite (ℕ_discrete 0 h) (λ e. subst (λ (z : ℕ). group_bytes two_fragments z ≤ 12) e (lit≤ tt)) (λ n. few (cond (eqb 0 h) 4 0) (cond (eqb 0 h) 8 0) (if_false {A = ℕ} (eqb 0 h) 4 0 (ne_eqb 0 h n)) (if_false {A = ℕ} (eqb 0 h) 8 0 (ne_eqb 0 h n)))
+two_bytes h = dite (ℕ_discrete 0 h) (λ e. subst (λ (z : ℕ). group_bytes two_fragments z ≤ 12) e (lit≤ tt)) (λ n. few (cond (eqb 0 h) 4 0) (cond (eqb 0 h) 8 0) (cond-false {A = ℕ} (eqb 0 h) 4 0 (ne_eqb 0 h n)) (cond-false {A = ℕ} (eqb 0 h) 8 0 (ne_eqb 0 h n)))
   where
     few : (a b : ℕ) → a ≡ 0 → b ≡ 0 → 0 + a + b ≤ 12
     few a b e f = omega arith
@@ -167,73 +109,46 @@ two_fragments_allowed = (
   ),
 )
 
-two_fragments_legal : AreLegal (opening two_fragments 65536) two_fragments_records
-unfolding opening_of layout_of
-two_fragments_legal =
-    let c0 = opening_within (layout_of two_fragments 65536) in
-    let c2 = queue_within _ 0 (1 ∷ []) c0 (lit≤ tt) in
-    let c3 = log_within _ 0 (6 ∷ []) (queue_within _ 0 [] c2 (lit≤ tt)) (lit≤ tt) in (
-      (refl, tt),
-      c0,
-      (λ _. refl),
-      (
-        (lit< tt, (refl, (refl, tt))),
-        record { queues = c0.queues; logs = c0.logs },
-        (λ e. absurd (cc)),
-        (
-          (refl, tt),
-          record { queues = c0.queues; logs = c0.logs },
-          (λ _. refl),
-          (
-            (lit< tt, (refl, (refl, (refl, (refl, tt))))),
-            record { queues = c2.queues; logs = c2.logs },
-            (λ e. absurd (cc)),
-            (
-              (refl, (refl, (refl, (refl, (refl, (refl, (refl, tt))))))),
-              record { queues = c3.queues; logs = c3.logs },
-              (λ e. absurd (cc)),
-              (
-                (refl, tt),
-                record { queues = c3.queues; logs = c3.logs },
-                (λ _. refl),
-                (
-                  (refl, tt),
-                  record { queues = c3.queues; logs = c3.logs },
-                  (λ _. refl),
-                  (
-                    (refl, tt),
-                    record { queues = c3.queues; logs = c3.logs },
-                    (λ _. refl),
-                    ((refl, tt), record { queues = c3.queues; logs = c3.logs }, (λ _. refl), tt),
-                  ),
-                ),
-              ),
-            ),
-          ),
-        ),
-      ),
-    )
+-- ---- both
 
-two_fragments_history : IsLegalHistory (opening two_fragments 65536) two_fragments_records (after_records (opening two_fragments 65536) two_fragments_records)
-two_fragments_history = record {
-  order = in_order two_fragments_records refl;
-  run = legal two_fragments_records (opening two_fragments 65536) two_fragments_legal;
-  counted = counted_alone two_fragments_records (λ k n. (n, (n, (n, (n, (n, (n, (n, (n, (n, tt)))))))))) (refl, (refl, (refl, (refl, (refl, (refl, (refl, (refl, (refl, tt)))))))));
-  apart = all_apart two_fragments_records refl;
-  placed = ((λ e. absurd (cc)), ((λ e. lit< tt), ((λ e. absurd (cc)), ((λ e. lit< tt), ((λ e. lit< tt), ((λ e. absurd (cc)), ((λ e. absurd (cc)), ((λ e. absurd (cc)), ((λ e. absurd (cc)), tt)))))))));
-}
+one_frame_finished : IsFinished one_frame (state_of (layout_of one_frame 65536) (found_alone (8 ∷ [])))
+unfolding state_of
+one_frame_finished = record { pool = refl; queue = refl; given = lit≤ tt }
 
-two_fragments_run : IsWholeRun two_fragments 65536 two_fragments_records (6 ∷ [])
-unfolding opening_of layout_of
-two_fragments_run = record {
-  sound = two_fragments_sound;
-  end = after_records (opening two_fragments 65536) two_fragments_records;
-  history = two_fragments_history;
-  allowed = two_fragments_allowed;
-  lawful = end_lawful two_fragments two_fragments_sound 65536 two_fragments_records (after_records (opening two_fragments 65536) two_fragments_records) (record { run = two_fragments_history.run; allowed = two_fragments_allowed });
-  finished = record { pool = refl; queue = refl; given = lit≤ tt };
-  found = refl;
-}
+two_fragments_finished : IsFinished two_fragments (state_of (layout_of two_fragments 65536) (found_alone (6 ∷ [])))
+unfolding state_of
+two_fragments_finished = record { pool = refl; queue = refl; given = lit≤ tt }
 
-pub worked_runs : WorkedRuns
-worked_runs = (one_frame_run, two_fragments_run)
+log_of : (layout : Layout) (values : List ℕ) → ((state_of layout (found_alone values)).logs 0).items ≡ values
+unfolding state_of
+log_of layout values = refl
+
+module _ (worked : WorkedHistories) (ends : RunsEndLawful) where
+  one_frame_run : IsWholeRun one_frame 65536 one_frame_records
+  one_frame_run = record {
+    sound = one_frame_sound;
+    end = state_of (layout_of one_frame 65536) (found_alone (8 ∷ []));
+    history = worked.one_frame.legal;
+    allowed = one_frame_allowed;
+    lawful = ends one_frame one_frame_sound 65536 one_frame_records (state_of (layout_of one_frame 65536) (found_alone (8 ∷ []))) (record { run = worked.one_frame.legal.run; allowed = one_frame_allowed });
+    finished = one_frame_finished;
+  }
+
+  two_fragments_run : IsWholeRun two_fragments 65536 two_fragments_records
+  two_fragments_run = record {
+    sound = two_fragments_sound;
+    end = state_of (layout_of two_fragments 65536) (found_alone (6 ∷ []));
+    history = worked.two_fragments.legal;
+    allowed = two_fragments_allowed;
+    lawful = ends two_fragments two_fragments_sound 65536 two_fragments_records (state_of (layout_of two_fragments 65536) (found_alone (6 ∷ []))) (record { run = worked.two_fragments.legal.run; allowed = two_fragments_allowed });
+    finished = two_fragments_finished;
+  }
+
+  pub worked_runs : WorkedRuns
+  unfolding one_frame_run two_fragments_run
+  worked_runs = record {
+    frame = one_frame_run;
+    frame_found = log_of (layout_of one_frame 65536) (8 ∷ []);
+    fragments = two_fragments_run;
+    fragments_found = log_of (layout_of two_fragments 65536) (6 ∷ []);
+  }

@@ -3,8 +3,9 @@ use Rattle.std.specs.Prelude.{◌≡◌, ℕ, ◌+◌, ◌-◌, ◌*◌, ◌<◌
 use Rattle.serial_terms.specs.declared.call.Call.TheVariants.{MapGet, MapPut, MapRemove, Enqueue, Dequeue, QueueLen, Take, Give, AppendPlaced, CellGet, CellPut}
 use Rattle.serial_terms.specs.declared.call.Reply.TheVariants.{Nothing, Absent, Value, Flag}
 use Rattle.serial_terms.specs.declared.call.Done.{Done}
+use Rattle.serial_terms.specs.Counts.{numbers_from}
 use Rattle.serial_terms.specs.Serial.{outside, in_child, found}
-use Rattle.run_stages.specs.Work.{Work, task, IsWhole, IsMember, end_of, given_count, numbers_from, task_item, group_item, group_word, head_of, bytes_of, total_of}
+use Rattle.run_stages.specs.Work.{Work, task, IsWhole, IsMember, end_of, given_count, task_item, group_item, group_word, head_of, bytes_of, total_of}
 
 module _ (w : Work) where
   -- ---- a fragment is added to its group, whose old word is there or not

@@ -1,7 +1,7 @@
 -- Where a run ends, and how much its records did.
 use Rattle.std.specs.Prelude.{◌≡◌, ℕ, ◌+◌, ◌<◌, ◌≤◌, List, [], ◌∷◌, length}
 use Rattle.serial_terms.specs.declared.call.Call.{Call}
-use Rattle.serial_terms.specs.declared.call.Call.TheVariants.{Take, Dequeue}
+use Rattle.serial_terms.specs.declared.call.Call.TheVariants.{Take, Dequeue, QueueLen}
 use Rattle.serial_terms.specs.declared.call.Reply.{Reply}
 use Rattle.serial_terms.specs.declared.call.Reply.TheVariants.{Value}
 use Rattle.serial_terms.specs.declared.call.Done.{Done}
@@ -44,6 +44,20 @@ tasks_taken (d ∷ ds) = took_task d.call d.reply + tasks_taken ds
 abbrev pub items_taken : List Done → ℕ
 items_taken [] = 0
 items_taken (d ∷ ds) = took_item d.call d.reply + items_taken ds
+
+-- 1 for a record that fills the pool, which alone begins with asking for the queue's length
+abbrev pub asks_length : Call → ℕ
+asks_length (QueueLen q) = 1
+asks_length c = 0
+
+abbrev pub is_fill : List Done → ℕ
+is_fill [] = 0
+is_fill (d ∷ ds) = asks_length d.call
+
+-- how many of the records fill the pool
+abbrev pub fills_made : List (Entry Done) → ℕ
+fills_made [] = 0
+fills_made (e ∷ es) = is_fill e.dones + fills_made es
 
 -- how many tasks and items the records took
 abbrev pub all_tasks_taken : List (Entry Done) → ℕ

@@ -1,5 +1,5 @@
 -- The laws of the run, each as one statement.
-use Rattle.std.specs.Prelude.{◌≡◌, ℕ, ◌+◌, ◌≤◌, List, length, Some, IsSome, IsPermutation}
+use Rattle.std.specs.Prelude.{◌≡◌, ℕ, ◌+◌, ◌*◌, ◌≤◌, List, length, Some, IsSome, IsPermutation}
 use Rattle.serial_terms.specs.declared.call.Done.{Done}
 use Rattle.serial_terms.specs.Entries.{Entry}
 use Rattle.serial_terms.specs.Histories.{Runs}
@@ -8,7 +8,7 @@ use Rattle.run_stages.specs.Work.{Work, IsSoundWork, IsMember, room, given_count
 use Rattle.run_stages.specs.Allowed.{IsAllowed}
 use Rattle.run_stages.specs.Stages.{IsLawful}
 use Rattle.run_stages.specs.Opening.{opening, IsRunOfWork}
-use Rattle.run_stages.specs.Ends.{IsFinished, AreAllDatagrams, IsIncomplete, all_tasks_taken, all_items_taken}
+use Rattle.run_stages.specs.Ends.{IsFinished, AreAllDatagrams, IsIncomplete, all_tasks_taken, all_items_taken, fills_made}
 
 abbrev pub OpeningIsLawful : Type 0
 OpeningIsLawful = (w : Work) (findings : ℕ) → IsLawful w (opening w findings)
@@ -44,3 +44,10 @@ RunsAreBounded = (w : Work) → IsSoundWork w → (findings : ℕ) (records : Li
     × (all_tasks_taken records ≤ length w.tasks)
     × (all_items_taken records ≤ length w.tasks)
     × ((end.pools 0).held + length (end.queues 0).items ≤ room w)
+
+-- plain cell 0 is the number of fills; and where no more is to be filled, every task was given
+abbrev pub FillsAreCounted : Type 0
+FillsAreCounted = (w : Work) → IsSoundWork w → (findings : ℕ) (records : List (Entry Done)) (end : State)
+    → IsRunOfWork w findings records end
+    → (end.cells 0 ≡ fills_made records)
+    × (length w.tasks ≤ 4096 * (fills_made records + 1) → length w.tasks ≤ given_count w (end.cells 0))

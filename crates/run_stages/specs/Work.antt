@@ -1,5 +1,6 @@
 -- The work of a run: its tasks, the groups that some of them belong to, and what is to be found.
-use Rattle.std.specs.Prelude.{◌≡◌, ℕ, zero, suc, ◌+◌, ◌*◌, ◌/◌, ◌%◌, ◌^◌, ◌<◌, ◌≤◌, min, max, Bool, false, IsTrue, ◌==◌, List, [], ◌∷◌, ◌++◌, length, get_or, Option, Some, None, if◌then◌else◌}
+use Rattle.std.specs.Prelude.{◌≡◌, ℕ, zero, suc, ◌+◌, ◌*◌, ◌/◌, ◌%◌, ◌^◌, ◌<◌, ◌≤◌, Bool, false, IsTrue, ◌==◌, List, [], ◌∷◌, ◌++◌, length, get_or, Option, Some, None, if◌then◌else◌}
+use Rattle.serial_terms.specs.RunLayout.{room_for, given_of}
 
 -- one task: a whole frame, which has no group, or a fragment of a group, from `start` on for `size` bytes, the last or not
 pub record TaskFacts : Type 0 where
@@ -19,11 +20,6 @@ pub record Work : Type 0 where
 abbrev pub total_below : (ℕ → ℕ) → ℕ → ℕ
 total_below f zero = 0
 total_below f (suc n) = total_below f n + f n
-
--- k numbers from a on
-abbrev pub numbers_from : ℕ → ℕ → List ℕ
-numbers_from a zero = []
-numbers_from a (suc k) = a ∷ numbers_from (a + 1) k
 
 abbrev pub is_some_of : Option ℕ → ℕ → Bool
 is_some_of (Some x) h = x == h
@@ -74,17 +70,13 @@ module _ (w : Work) where
 
   -- ---- sizes and batches
 
-  -- how many tasks are given out at a time
-  abbrev pub batch : ℕ
-  batch = 4096
-
   -- the slots of the pool, and the capacity of the queue
   abbrev pub room : ℕ
-  room = min 4096 (max (length w.tasks) 1)
+  room = room_for (length w.tasks)
 
   -- the number of tasks that are given after f fills
   abbrev pub given_count : ℕ → ℕ
-  given_count f = min (length w.tasks) (4096 * (f + 1))
+  given_count f = given_of (length w.tasks) f
 
 -- ---- numbers that stand for datagrams in the queue
 

@@ -2,45 +2,45 @@
 
 ghost use Rattle.run_stages.specs.FromCapture.{TasksHaveFacts, PlansAreWork, WholeIsDatagram, GroupIsDatagram, DatagramsAreListed, ValuesAreFindings, FinishedFindsCapture, LogIsPartOfFindings, IncompleteAreCounted, FinishedCountsIncomplete};
 
-use crate::laws::log_is_part_of_all;
+use crate::laws::log_is_part_of_all_law;
 use capture_terms::{group_law, task_law};
 
 /// What a run has of each task is what the task has.
-pub fn tasks_have_facts()
+pub fn tasks_have_facts_law()
     ensures { TasksHaveFacts }
 {}
 
 /// The work of a capture's plan is sound.
-pub fn plans_are_work()
+pub fn plans_are_work_law()
     ensures { PlansAreWork }
 {
     group_law();
 }
 
 /// A whole datagram's task is asked for by its number, and has the values of the findings in it.
-pub fn whole_is_datagram()
+pub fn whole_is_datagram_law()
     ensures { WholeIsDatagram }
 {}
 
 /// A complete group's datagram is asked for by the numbers of the group's tasks, in any order, and the
 /// group has the values of the findings in it.
-pub fn group_is_datagram()
+pub fn group_is_datagram_law()
     ensures { GroupIsDatagram }
 {}
 
 /// Some list has all datagrams of a run, and their values are the findings in order.
-pub fn datagrams_are_listed()
+pub fn datagrams_are_listed_law()
     ensures { DatagramsAreListed }
 {}
 
 /// The values of all datagrams of a run are the findings in the datagrams of the tasks, in some order.
-pub fn values_are_findings()
+pub fn values_are_findings_law()
     ensures { ValuesAreFindings }
 {}
 
 /// So the log of a finished lawful state has exactly the findings of the rules in the capture, in some
 /// order.
-pub fn finished_finds_capture()
+pub fn finished_finds_capture_law()
     ensures { FinishedFindsCapture }
 {
     task_law();
@@ -48,21 +48,21 @@ pub fn finished_finds_capture()
 
 /// The log of a lawful state never has more values than there are findings in the capture, and has room
 /// among these for those of the queue's first item.
-pub fn log_is_part_of_findings()
+pub fn log_is_part_of_findings_law()
     ensures { LogIsPartOfFindings }
 {
-    log_is_part_of_all();
+    log_is_part_of_all_law();
     task_law();
 }
 
 /// The incomplete groups of a run are those that are counted of a plan.
-pub fn incomplete_are_counted()
+pub fn incomplete_are_counted_law()
     ensures { IncompleteAreCounted }
 {}
 
 /// So map 0 of a finished lawful state has a word for as many groups as are counted, and for none that
 /// isn't there.
-pub fn finished_counts_incomplete()
+pub fn finished_counts_incomplete_law()
     ensures { FinishedCountsIncomplete }
 {
     group_law();

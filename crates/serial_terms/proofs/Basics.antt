@@ -1,4 +1,4 @@
--- Choices, functions changed at one place, and facts of each element.
+-- Functions changed at two places, and facts of each element.
 use Rattle.std.proofs.Common.{◌≡◌, ◌≢◌, ℕ, Bool, true, false, cond, eqb, List, [], ◌∷◌, ◌++◌, ◌⊎◌, inl, inr, ⊎_elim, sym, refl, ap, ◌∙◌, subst, arith, eq-eqb, ne_eqb}
 use Rattle.std.proofs.lemmas.Bool.Decides.{nat_tests}
 use mathlib.Core.Logic.{dite}
@@ -6,43 +6,12 @@ use mathlib.Core.Path.{fun_ext}
 use native.Mathlib.Decide.{ℕ_discrete}
 use Rattle.serial_terms.specs.Counts.{with_at}
 use Rattle.serial_terms.specs.Entries.{Each, IsIn}
-
-pub if_true : {A : Type 0} (b : Bool) (x y : A) → b ≡ true → cond b x y ≡ x
-if_true b x y e = ap (λ (z : Bool). cond z x y) e
-
-pub if_false : {A : Type 0} (b : Bool) (x y : A) → b ≡ false → cond b x y ≡ y
-if_false b x y e = ap (λ (z : Bool). cond z x y) e
-
-pub bool_cases : (b : Bool) → (b ≡ true) ⊎ (b ≡ false)
-bool_cases true = inl refl
-bool_cases false = inr refl
+use Rattle.serial_terms.specs.Facts.{with_at_same, with_at_other}
 
 pub true_or_false : (b : Bool) → b ≡ true → b ≡ false → ⊥
 true_or_false b e f = let z : true ≡ false = sym e ∙ f in absurd (cc)
 
-pub append_nil : {A : Type 0} (xs : List A) → xs ++ [] ≡ xs
-append_nil [] = refl
-append_nil {A} (x ∷ xs) = ap (λ (z : List A). x ∷ z) (append_nil xs)
-
 -- ---- functions changed at one place
-
-pub with_at_same : {A : Type 0} (f : ℕ → A) (n : ℕ) (v : A) (m : ℕ) → m ≡ n → with_at f n v m ≡ v
-with_at_same f n v m e = if_true (eqb m n) v (f m) (eq-eqb m n e)
-
-pub with_at_other : {A : Type 0} (f : ℕ → A) (n : ℕ) (v : A) (m : ℕ) → m ≢ n → with_at f n v m ≡ f m
-with_at_other f n v m h = if_false (eqb m n) v (f m) (ne_eqb m n h)
-
-pub with_at_own : {A : Type 0} (f : ℕ → A) (n : ℕ) → with_at f n (f n) ≡ f
-with_at_own f n = fun_ext (own f n)
-  where
-    own : {A : Type 0} (f : ℕ → A) (n m : ℕ) → with_at f n (f n) m ≡ f m
-    own f n m = grind (arith, nat_tests)
-
-pub with_at_twice : {A : Type 0} (f : ℕ → A) (n : ℕ) (v w : A) → with_at (with_at f n v) n w ≡ with_at f n w
-with_at_twice f n v w = fun_ext (twice f n v w)
-  where
-    twice : {A : Type 0} (f : ℕ → A) (n : ℕ) (v w : A) (m : ℕ) → with_at (with_at f n v) n w m ≡ with_at f n w m
-    twice f n v w m = grind (arith, nat_tests)
 
 pub with_at_swap : {A : Type 0} (f : ℕ → A) (n k : ℕ) (v w : A) → n ≢ k → with_at (with_at f n v) k w ≡ with_at (with_at f k w) n v
 with_at_swap f n k v w h = fun_ext (swapped f n k v w h)
@@ -55,10 +24,6 @@ with_at_swap f n k v w h = fun_ext (swapped f n k v w h)
 pub each_map : {A : Type 0} (P Q : A → Type 0) → ((x : A) → P x → Q x) → (xs : List A) → Each P xs → Each Q xs
 each_map P Q f [] a = tt
 each_map P Q f (x ∷ xs) a = (f x a.0, each_map P Q f xs a.1)
-
-pub each_append : {A : Type 0} (P : A → Type 0) (xs ys : List A) → Each P xs → Each P ys → Each P (xs ++ ys)
-each_append P [] ys a b = b
-each_append P (x ∷ xs) ys a b = (a.0, each_append P xs ys a.1 b)
 
 pub each_all : {A : Type 0} (P : A → Type 0) (xs : List A) → ((x : A) → P x) → Each P xs
 each_all P [] f = tt

@@ -4,15 +4,16 @@ use mathlib.Core.Logic.{dite}
 use native.Mathlib.Decide.{ℕ_discrete}
 use Rattle.serial_terms.specs.Entries.{Entry, Each, IsIn, Precedes, IsInOrder, by_caller, Book, AreBooks, IsHistoryOf}
 use Rattle.serial_terms.specs.Laws.{HistoryKeepsBooks}
-use Rattle.serial_terms.proofs.Basics.{if_true, if_false, in_each}
 use Rattle.serial_terms.proofs.Ordering.{unique}
+use Rattle.std.proofs.lemmas.Bool.{cond-true, cond-false}
+use Rattle.serial_terms.proofs.Basics.{in_each}
 
 module _ {D : Type 0} where
   own : (k : ℕ) (e : Entry D) (es : List (Entry D)) → e.caller ≡ k → by_caller k (e ∷ es) ≡ e ∷ by_caller k es
-  own k e es q = if_true (eqb e.caller k) (e ∷ by_caller k es) (by_caller k es) (eq-eqb e.caller k q)
+  own k e es q = cond-true (eqb e.caller k) (e ∷ by_caller k es) (by_caller k es) (eq-eqb e.caller k q)
 
   other : (k : ℕ) (e : Entry D) (es : List (Entry D)) → e.caller ≢ k → by_caller k (e ∷ es) ≡ by_caller k es
-  other k e es q = if_false (eqb e.caller k) (e ∷ by_caller k es) (by_caller k es) (ne_eqb e.caller k q)
+  other k e es q = cond-false (eqb e.caller k) (e ∷ by_caller k es) (by_caller k es) (ne_eqb e.caller k q)
 
   each_by : (P : Entry D → Type 0) (k : ℕ) (es : List (Entry D)) → Each P es → Each P (by_caller k es)
   each_by P k [] a = tt

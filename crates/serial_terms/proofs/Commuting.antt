@@ -11,7 +11,8 @@ use Rattle.serial_terms.specs.Counts.{with_at}
 use Rattle.serial_terms.specs.Laws.{PartsCommute}
 use Rattle.serial_terms.specs.Parts.{Part, a_key, a_queue, a_pool, a_log, a_cell, part}
 use Rattle.serial_terms.specs.Serial.{State, Sequence, Pool, Allows, after, found, first, rest, less, more, IsTakenFrom, put_map, put_queue, put_pool, put_cell, after_take, after_give, by_value}
-use Rattle.serial_terms.proofs.Basics.{with_at_same, with_at_other, with_at_own, with_at_twice, with_at_swap}
+use Rattle.serial_terms.specs.Facts.{with_at_same, with_at_other, with_at_own, with_at_twice}
+use Rattle.serial_terms.proofs.Basics.{with_at_swap}
 
 abbrev Content : Part → Type 0
 Content (a_key m k) = Option ℕ

@@ -9,3 +9,8 @@ pub mod Showing
 pub mod Stepping
 pub mod Worked
 pub mod Books
+pub mod OneBook
+pub mod Seen
+pub mod Renamed
+pub mod Purposes
+pub mod Wrong

@@ -1,11 +1,13 @@
 -- Records in the order of a history.
-use Rattle.std.proofs.Common.{◌≡◌, ◌≢◌, ℕ, zero, suc, ◌<◌, ◌≤◌, true, List, [], ◌∷◌, ◌++◌, ◌⊎◌, inl, inr, ⊎_elim, sym, refl, ap, ◌∙◌, subst, arith}
+use Rattle.std.proofs.Common.{◌≡◌, ◌≢◌, ℕ, zero, suc, ◌<◌, ◌≤◌, true, false, List, [], ◌∷◌, ◌++◌, ◌⊎◌, inl, inr, ⊎_elim, sym, refl, ap, ◌∙◌, subst, arith}
 use Rattle.std.specs.Prelude.{Option, Some, None, option_to_list}
 use Rattle.std.proofs.lemmas.Bool.Decides.{nat_tests}
 use mathlib.Core.Logic.{dite}
 use native.Mathlib.Decide.{ℕ_discrete}
-use Rattle.serial_terms.specs.Entries.{Entry, Each, IsIn, Precedes, IsInOrder, up_to, OneWriterAPlace, merged, IsWriterAt, IsReaderAt, AreOfTheirPlaces}
-use Rattle.serial_terms.proofs.Basics.{append_nil, each_map, each_append, each_all, in_each, true_or_false}
+use Rattle.serial_terms.specs.Entries.{Entry, Each, OrderedBy, IsIn, Precedes, StandsBefore, IsInOrder, up_to, OneWriterAPlace, merged, IsWriterAt, IsReaderAt, AreOfTheirPlaces}
+use Rattle.std.proofs.lemmas.List.{append-nil}
+use Rattle.serial_terms.specs.Facts.{each_append}
+use Rattle.serial_terms.proofs.Basics.{each_map, each_all, in_each, true_or_false}
 
 later : (k n j i : ℕ) → (k < j) ⊎ ((k ≡ j) × (n < i)) → (j < k) ⊎ ((j ≡ k) × (i < n)) → ⊥
 later k n j i f g = ⊎_elim (λ a. ⊎_elim (λ b. omega arith) (λ b. let x = b.0 in omega arith) g) (λ a. let x = a.0 in let y = a.1 in ⊎_elim (λ b. omega arith) (λ b. let z = b.1 in omega arith) g) f
@@ -48,18 +50,26 @@ module _ {D : Type 0} where
   up_to_append t [] ys = refl
   up_to_append t (x ∷ xs) ys = let i = up_to_append t xs ys in grind (arith, nat_tests)
 
-  place_le : (a b : Entry D) → Precedes a b → a.place ≤ b.place
-  place_le a b p = ⊎_elim (λ l. omega arith) (λ e. let x = e.0 in omega arith) p
+  pub precedes_low : (a b : Entry D) → Precedes a b → a.place ≤ b.place
+  precedes_low a b p = ⊎_elim (λ l. omega arith) (λ e. let x = e.0 in omega arith) p
+
+  pub stands_low : (a b : Entry D) → StandsBefore a b → a.place ≤ b.place
+  stands_low a b p = ⊎_elim (λ l. omega arith) (λ e. let x = e.0 in omega arith) p
+
+  -- the order of a history is that by place
+  pub stands : (a b : Entry D) → Precedes a b → StandsBefore a b
+  stands a b p = ⊎_elim (λ l. inl l) (λ e. inr (e.0, ⊎_elim (λ w. inl w) (λ x. inr (x.0, ⊎_elim (λ l. omega arith) (λ y. let c = y.0 in omega arith) x.1)) e.1)) p
 
   up_to_cons : (t : ℕ) (e : Entry D) (es : List (Entry D)) → e.place ≤ t → up_to t (e ∷ es) ≡ e ∷ up_to t es
   up_to_cons t e es l = grind (arith, nat_tests)
 
-  -- in a list in order the records up to a place are its beginning
-  pub up_to_begins : (t : ℕ) (es : List (Entry D)) → IsInOrder es → (rest : List (Entry D)) × (es ≡ up_to t es ++ rest)
-  up_to_begins t [] a = ([], refl)
-  up_to_begins t (e ∷ es) a = ⊎_elim
-      (λ l. let r = up_to_begins t es a.1 in (r.0, ap (λ (z : List (Entry D)). e ∷ z) r.1 ∙ ap (λ (z : List (Entry D)). z ++ r.0) (sym (up_to_cons t e es l))))
-      (λ l. (e ∷ es, ap (λ (z : List (Entry D)). z ++ (e ∷ es)) (sym (up_to_none t (e ∷ es) (l, each_map (Precedes e) (λ x. t < x.place) (λ x p. let q = place_le e x p in omega arith) es a.0)))))
+  -- in a list whose places never fall the records up to a place are its beginning
+  pub up_to_begins : (R : Entry D → Entry D → Type 0) → ((a b : Entry D) → R a b → a.place ≤ b.place) → (t : ℕ) (es : List (Entry D)) → OrderedBy R es → (rest : List (Entry D)) × (es ≡ up_to t es ++ rest) × Each (λ x. t < x.place) rest
+  up_to_begins R low t [] a = ([], refl, tt)
+  up_to_begins R low t (e ∷ es) a = ⊎_elim
+      (λ l. let r = up_to_begins R low t es a.1 in (r.0, ap (λ (z : List (Entry D)). e ∷ z) r.1 ∙ ap (λ (z : List (Entry D)). z ++ r.0) (sym (up_to_cons t e es l)), r.2))
+      (λ l. let above : Each (λ x. t < x.place) (e ∷ es) = (l, each_map (R e) (λ x. t < x.place) (λ x p. let q = low e x p in omega arith) es a.0) in
+      (e ∷ es, ap (λ (z : List (Entry D)). z ++ (e ∷ es)) (sym (up_to_none t (e ∷ es) above)), above))
       (le_or_above e.place t)
     where
       le_or_above : (x y : ℕ) → (x ≤ y) ⊎ (y < x)
@@ -67,14 +77,12 @@ module _ {D : Type 0} where
 
   -- ---- merged place by place
 
-  pub order_append : (xs ys : List (Entry D)) → IsInOrder xs → IsInOrder ys → Each (λ x. Each (Precedes x) ys) xs → IsInOrder (xs ++ ys)
-  order_append [] ys a b c = b
-  order_append (x ∷ xs) ys a b c = (each_append (Precedes x) xs ys a.0 c.0, order_append xs ys a.1 b c.1)
+  pub order_append : (R : Entry D → Entry D → Type 0) (xs ys : List (Entry D)) → OrderedBy R xs → OrderedBy R ys → Each (λ x. Each (R x) ys) xs → OrderedBy R (xs ++ ys)
+  order_append R [] ys a b c = b
+  order_append R (x ∷ xs) ys a b c = (each_append (R x) xs ys a.0 c.0, order_append R xs ys a.1 b c.1)
 
-  module _ (writer : ℕ → Option (Entry D)) (readers : ℕ → List (Entry D)) (own : AreOfTheirPlaces writer readers) where
-    here : ℕ → List (Entry D)
-    here p = option_to_list (writer p) ++ readers p
-
+  module _ (R : Entry D → Entry D → Type 0) (below : (a b : Entry D) → a.place < b.place → R a b) (behind : (a b : Entry D) → a.place ≡ b.place → a.writer ≡ true → b.writer ≡ false → R a b)
+      (writer : ℕ → Option (Entry D)) (readers : ℕ → List (Entry D)) (own : AreOfTheirPlaces R writer readers) where
     here_placed : (p : ℕ) → Each (λ e. e.place ≡ p) (option_to_list (writer p) ++ readers p)
     here_placed p = each_append (λ e. e.place ≡ p) (option_to_list (writer p)) (readers p) (each_map (IsWriterAt p) (λ e. e.place ≡ p) (λ e a. a.0) _ (own.of_writers p)) (each_map (IsReaderAt p) (λ e. e.place ≡ p) (λ e a. a.0) _ (own.of_readers p))
 
@@ -82,18 +90,18 @@ module _ {D : Type 0} where
     merged_below zero = each_map (IsReaderAt 0) (λ e. e.place ≤ 0) (λ e a. let q = a.0 in omega arith) (readers 0) (own.of_readers 0)
     merged_below (suc p) = each_append (λ e. e.place ≤ suc p) (merged writer readers p) _ (each_map (λ e. e.place ≤ p) (λ e. e.place ≤ suc p) (λ e q. omega arith) (merged writer readers p) (merged_below p)) (each_map (λ e. e.place ≡ suc p) (λ e. e.place ≤ suc p) (λ e q. omega arith) _ (here_placed (suc p)))
 
-    one_order : (o : Option (Entry D)) → IsInOrder (option_to_list o)
+    one_order : (o : Option (Entry D)) → OrderedBy R (option_to_list o)
     one_order (Some e) = (tt, tt)
     one_order None = tt
 
-    here_order : (p : ℕ) → IsInOrder (option_to_list (writer p) ++ readers p)
-    here_order p = order_append (option_to_list (writer p)) (readers p) (one_order (writer p)) (own.ordered p)
-        (each_map (IsWriterAt p) (λ x. Each (Precedes x) (readers p)) (λ x a. each_map (IsReaderAt p) (Precedes x) (λ y b. inr (a.0 ∙ sym b.0, inl (a.1, b.1))) (readers p) (own.of_readers p)) _ (own.of_writers p))
+    here_order : (p : ℕ) → OrderedBy R (option_to_list (writer p) ++ readers p)
+    here_order p = order_append R (option_to_list (writer p)) (readers p) (one_order (writer p)) (own.ordered p)
+        (each_map (IsWriterAt p) (λ x. Each (R x) (readers p)) (λ x a. each_map (IsReaderAt p) (R x) (λ y b. behind x y (a.0 ∙ sym b.0) a.1 b.1) (readers p) (own.of_readers p)) _ (own.of_writers p))
 
-    pub merged_order : (p : ℕ) → IsInOrder (merged writer readers p)
+    pub merged_order : (p : ℕ) → OrderedBy R (merged writer readers p)
     merged_order zero = own.ordered 0
-    merged_order (suc p) = order_append (merged writer readers p) (option_to_list (writer (suc p)) ++ readers (suc p)) (merged_order p) (here_order (suc p))
-        (each_map (λ e. e.place ≤ p) (λ x. Each (Precedes x) (option_to_list (writer (suc p)) ++ readers (suc p))) (λ x l. each_map (λ e. e.place ≡ suc p) (Precedes x) (λ y e. inl (omega arith)) _ (here_placed (suc p))) _ (merged_below p))
+    merged_order (suc p) = order_append R (merged writer readers p) (option_to_list (writer (suc p)) ++ readers (suc p)) (merged_order p) (here_order (suc p))
+        (each_map (λ e. e.place ≤ p) (λ x. Each (R x) (option_to_list (writer (suc p)) ++ readers (suc p))) (λ x l. each_map (λ e. e.place ≡ suc p) (R x) (λ y e. below x y (omega arith)) _ (here_placed (suc p))) _ (merged_below p))
 
     -- ---- one writer a place
 
@@ -121,6 +129,11 @@ module _ {D : Type 0} where
     merged_apart (suc p) = apart_append (merged writer readers p) (option_to_list (writer (suc p)) ++ readers (suc p)) (merged_apart p) (here_apart (suc p))
         (each_map (λ e. e.place ≤ p) (λ x. Each (Apart x) (option_to_list (writer (suc p)) ++ readers (suc p))) (λ x l. each_map (λ e. e.place ≡ suc p) (Apart x) (λ y e w z q. omega arith) _ (here_placed (suc p))) _ (merged_below p))
 
+    -- no writer is at place 0
+    pub merged_placed : (p : ℕ) → Each (λ e. e.writer ≡ true → 0 < e.place) (merged writer readers p)
+    merged_placed zero = each_map (IsReaderAt 0) (λ e. e.writer ≡ true → 0 < e.place) (λ e a w. absurd (true_or_false e.writer w a.1)) (readers 0) (own.of_readers 0)
+    merged_placed (suc p) = each_append (λ e. e.writer ≡ true → 0 < e.place) (merged writer readers p) _ (merged_placed p) (each_map (λ e. e.place ≡ suc p) (λ e. e.writer ≡ true → 0 < e.place) (λ e q w. omega arith) _ (here_placed (suc p)))
+
     -- up to an earlier place they are those merged so far
     pub up_to_merged : (t p : ℕ) → t ≤ p → up_to t (merged writer readers p) ≡ merged writer readers t
     up_to_merged t zero l = let e : t ≡ 0 = omega arith in subst (λ (z : ℕ). up_to z (readers 0) ≡ merged writer readers z) (sym e) (up_to_all 0 (readers 0) (merged_below 0))
@@ -128,4 +141,4 @@ module _ {D : Type 0} where
         (λ e. subst (λ (z : ℕ). up_to z (merged writer readers (suc p)) ≡ merged writer readers z) (sym e) (up_to_all (suc p) (merged writer readers (suc p)) (merged_below (suc p))))
         (λ ne. up_to_append t (merged writer readers p) (option_to_list (writer (suc p)) ++ readers (suc p))
         ∙ (ap (λ (z : List (Entry D)). up_to t (merged writer readers p) ++ z) (up_to_none t (option_to_list (writer (suc p)) ++ readers (suc p)) (each_map (λ e. e.place ≡ suc p) (λ e. t < e.place) (λ e q. omega arith) _ (here_placed (suc p))))
-        ∙ (append_nil (up_to t (merged writer readers p)) ∙ up_to_merged t p (omega arith))))
+        ∙ (append-nil (up_to t (merged writer readers p)) ∙ up_to_merged t p (omega arith))))

@@ -3,11 +3,8 @@ use Rattle.std.proofs.Common.{◌≡◌, ℕ, ◌+◌, ◌-◌, List, [], ◌∷
 use Rattle.std.proofs.lemmas.Bool.Decides.{nat_tests}
 use mathlib.Core.Path.{fun_ext}
 use Rattle.serial_terms.specs.Counts.{times, with_at}
+use Rattle.serial_terms.specs.Facts.{times_append}
 use Rattle.serial_terms.specs.Laws.{PoolsAreCounts}
-
-pub times_append : (x : ℕ) (xs ys : List ℕ) → times x (xs ++ ys) ≡ times x xs + times x ys
-times_append x [] ys = omega arith
-times_append x (y ∷ xs) ys = omega (arith, times_append x xs ys)
 
 taken_at : (x : ℕ) (before behind : List ℕ) (y : ℕ) → with_at (λ z. times z (before ++ x ∷ behind)) x (times x (before ++ x ∷ behind) - 1) y ≡ times y (before ++ behind)
 taken_at x before behind y = grind (arith, nat_tests, times_append)

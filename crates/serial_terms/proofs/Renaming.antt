@@ -10,10 +10,10 @@ use Rattle.serial_terms.specs.declared.call.Reply.{Reply}
 use Rattle.serial_terms.specs.declared.call.Reply.TheVariants.{Nothing, Absent, Value, Flag}
 use Rattle.serial_terms.specs.Counts.{with_at}
 use Rattle.serial_terms.specs.Laws.{RenamingKeepsRuns, OwnNamesAreKeys}
-use Rattle.serial_terms.specs.Renaming.{with_key, IsNameOfKey, IsOneToOne, value_at, by_keys, NamedDone, named, AreNamesOfKeys, by_key, by_name}
+use Rattle.serial_terms.specs.Renaming.{with_key, OfKey, IsNameOfKey, IsOneToOne, value_at, by_keys, NamedDone, named, AreNamesOfKeys, by_key, by_name}
 use Rattle.serial_terms.specs.Histories.{Runs}
 use Rattle.serial_terms.specs.Serial.{State, Allows, after, found, put_map, by_value, after_take, after_give, step}
-use Rattle.serial_terms.proofs.Basics.{with_at_same, with_at_other}
+use Rattle.serial_terms.specs.Facts.{with_at_same, with_at_other}
 
 module _ (name : ℕ → ℕ → Option ℕ) (one : IsOneToOne name) where
   abbrev K : State → State
@@ -131,23 +131,23 @@ module _ (name : ℕ → ℕ → Option ℕ) (one : IsOneToOne name) where
 pub renamed : RenamingKeepsRuns
 renamed name one ds a s = (λ t r. runs_keyed name one ds a s t r, λ u r. runs_named name one ds a s u r)
 
-own_call : (name : ℕ → ℕ → Option ℕ) → ((m k n : ℕ) → name m k ≡ Some n → n ≡ k) → (n : ℕ) (c : Call) → IsNameOfKey name n c → with_key n c ≡ c
-own_call name own n (MapGet m k) a = ap (λ (z : ℕ). MapGet m z) (own m k n a)
-own_call name own n (MapPut m k v) a = ap (λ (z : ℕ). MapPut m z v) (own m k n a)
-own_call name own n (MapRemove m k) a = ap (λ (z : ℕ). MapRemove m z) (own m k n a)
-own_call name own n (MapPutIfAbsent m k v) a = ap (λ (z : ℕ). MapPutIfAbsent m z v) (own m k n a)
-own_call name own n (Enqueue q v) a = refl
-own_call name own n (Dequeue q) a = refl
-own_call name own n (QueueLen q) a = refl
-own_call name own n (Take q) a = refl
-own_call name own n (Give q v) a = refl
-own_call name own n (Append l v) a = refl
-own_call name own n (AppendPlaced l v) a = refl
-own_call name own n (LogRead l i) a = refl
-own_call name own n (LogLen l) a = refl
-own_call name own n (CellGet c) a = refl
-own_call name own n (CellPut c v) a = refl
+-- what is true of the call's key, if it has a key
+pub of_key_map : (P Q : ℕ → ℕ → Type 0) → ((m k : ℕ) → P m k → Q m k) → (c : Call) → OfKey P c → OfKey Q c
+of_key_map P Q f (MapGet m k) o = f m k o
+of_key_map P Q f (MapPut m k v) o = f m k o
+of_key_map P Q f (MapRemove m k) o = f m k o
+of_key_map P Q f (MapPutIfAbsent m k v) o = f m k o
+of_key_map P Q f _ o = tt
+
+pub own_key : (n : ℕ) (c : Call) → OfKey (λ m k. n ≡ k) c → with_key n c ≡ c
+own_key n (MapGet m k) a = ap (λ (z : ℕ). MapGet m z) a
+own_key n (MapPut m k v) a = ap (λ (z : ℕ). MapPut m z v) a
+own_key n (MapRemove m k) a = ap (λ (z : ℕ). MapRemove m z) a
+own_key n (MapPutIfAbsent m k v) a = ap (λ (z : ℕ). MapPutIfAbsent m z v) a
+own_key n _ a = refl
 
 pub own_names : OwnNamesAreKeys
 own_names name own [] a = refl
-own_names name own (d ∷ ds) a = let c = own_call name own d.name d.done.call a.0 in let r = own_names name own ds a.1 in λ i. record { call = c i; reply = d.done.reply; child = d.done.child } ∷ r i
+own_names name own (d ∷ ds) a =
+    let c = own_key d.name d.done.call (of_key_map (λ m k. name m k ≡ Some d.name) (λ m k. d.name ≡ k) (λ m k e. own m k d.name e) d.done.call a.0) in
+    let r = own_names name own ds a.1 in λ i. record { call = c i; reply = d.done.reply; child = d.done.child } ∷ r i

@@ -121,7 +121,7 @@ kinds (d ∷ ds) s t r = (kind d.call d.reply s r.0, kinds ds (step s d) t r.1)
 
 -- ---- capacities and numbers of slots
 
-abbrev Same : State → State → ℕ → Type 0
+abbrev pub Same : State → State → ℕ → Type 0
 Same s t n = ((t.queues n).capacity ≡ (s.queues n).capacity) × ((t.pools n).slots ≡ (s.pools n).slots) × ((t.logs n).capacity ≡ (s.logs n).capacity)
 
 taken_size : (s : State) (p : ℕ) (r : Reply) (n : ℕ) → Same s (after_take s p r) n

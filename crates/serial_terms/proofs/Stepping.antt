@@ -8,9 +8,11 @@ use Rattle.serial_terms.specs.declared.store.Layout.{Layout}
 use Rattle.serial_terms.specs.Counts.{with_at}
 use Rattle.serial_terms.specs.Entries.{Entry, Each, by_caller, IsCountedFrom}
 use Rattle.serial_terms.specs.Histories.{Runs, IsLegalRun}
+use Rattle.serial_terms.specs.Laws.{CapacitiesStay}
 use Rattle.serial_terms.specs.Serial.{State, Sequence, Pool, IsWithinCapacity, IsReplied, step, put_map, put_pool, put_queue, put_log, put_cell}
 use Rattle.serial_terms.specs.Stores.{opening_of}
-use Rattle.serial_terms.proofs.Basics.{with_at_same, with_at_other, if_false}
+use Rattle.std.proofs.lemmas.Bool.{cond-false}
+use Rattle.serial_terms.specs.Facts.{with_at_same, with_at_other}
 
 -- the state after calls, and after records
 abbrev pub after_calls : State → List Done → State
@@ -69,7 +71,7 @@ cell_within s k v c = record { queues = c.queues; logs = c.logs }
 -- a caller that has no record
 pub no_records : (k : ℕ) (es : List (Entry Done)) → Each (λ e. e.caller ≢ k) es → by_caller k es ≡ []
 no_records k [] a = refl
-no_records k (e ∷ es) a = if_false (eqb e.caller k) (e ∷ by_caller k es) (by_caller k es) (ne_eqb e.caller k a.0) ∙ no_records k es a.1
+no_records k (e ∷ es) a = cond-false (eqb e.caller k) (e ∷ by_caller k es) (by_caller k es) (ne_eqb e.caller k a.0) ∙ no_records k es a.1
 
 -- where caller 0 alone has records
 pub counted_alone : (es : List (Entry Done)) → ((k : ℕ) → 0 ≢ k → Each (λ e. e.caller ≢ k) es) → IsCountedFrom 0 (by_caller 0 es) → (k : ℕ) → IsCountedFrom 0 (by_caller k es)
@@ -79,3 +81,6 @@ counted_alone es alone c k = dite (ℕ_discrete 0 k) (λ e. subst (λ (z : ℕ).
 pub counted_both : (es : List (Entry Done)) → ((k : ℕ) → 0 ≢ k → 1 ≢ k → Each (λ e. e.caller ≢ k) es) → IsCountedFrom 0 (by_caller 0 es) → IsCountedFrom 0 (by_caller 1 es) → (k : ℕ) → IsCountedFrom 0 (by_caller k es)
 counted_both es both c d k = dite (ℕ_discrete 0 k) (λ e. subst (λ (z : ℕ). IsCountedFrom 0 (by_caller z es)) e c)
     (λ n. dite (ℕ_discrete 1 k) (λ e. subst (λ (z : ℕ). IsCountedFrom 0 (by_caller z es)) e d) (λ m. subst (IsCountedFrom 0) (sym (no_records k es (both k n m))) tt))
+
+pub capacities : CapacitiesStay
+capacities = record { opening = opening_within; queue = queue_within; log = log_within; map = map_within; pool = pool_within; cell = cell_within }

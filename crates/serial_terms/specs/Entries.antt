@@ -1,5 +1,6 @@
 -- Committed records in the order of a history, whatever their calls are.
-use Rattle.std.specs.Prelude.{◌≡◌, ◌≢◌, ℕ, zero, suc, ◌+◌, ◌<◌, Bool, IsTrue, IsFalse, ◌==◌, nat_le, List, [], ◌∷◌, ◌++◌, Option, ◌⊎◌, if◌then◌else◌, option_to_list}
+use Rattle.std.specs.Prelude.{◌≡◌, ◌≢◌, ℕ, zero, suc, ◌+◌, ◌<◌, ◌≤◌, Bool, IsTrue, IsFalse, ◌==◌, nat_le, List, [], ◌∷◌, ◌++◌, Option, ◌⊎◌, if◌then◌else◌, option_to_list}
+use Rattle.serial_terms.specs.Counts.{with_at}
 
 -- a committed record of calls of the type D
 pub record Entry (D : Type 0) : Type 0 where
@@ -13,6 +14,11 @@ pub record Entry (D : Type 0) : Type 0 where
 abbrev pub Each : {A : Type 0} → (A → Type 0) → List A → Type 0
 Each P [] = Unit {0}
 Each P (x ∷ xs) = P x × Each P xs
+
+-- R holds of each element and each one after it
+abbrev pub OrderedBy : {A : Type 0} → (A → A → Type 0) → List A → Type 0
+OrderedBy R [] = Unit {0}
+OrderedBy R (x ∷ xs) = Each (R x) xs × OrderedBy R xs
 
 -- x is an element of the list
 abbrev pub IsIn : {A : Type 0} → A → List A → Type 0
@@ -30,8 +36,14 @@ module _ {D : Type 0} where
 
   -- each record precedes all those after it
   abbrev pub IsInOrder : List (Entry D) → Type 0
-  IsInOrder [] = Unit {0}
-  IsInOrder (e ∷ es) = Each (Precedes e) es × IsInOrder es
+  IsInOrder = OrderedBy Precedes
+
+  -- the order of a history in which indices aren't known: by place, at one place the writer first, then by caller
+  abbrev pub StandsBefore : Entry D → Entry D → Type 0
+  StandsBefore a b = (a.place < b.place) ⊎ ((a.place ≡ b.place) × ((IsTrue a.writer × IsFalse b.writer) ⊎ ((a.writer ≡ b.writer) × (a.caller ≤ b.caller))))
+
+  abbrev pub IsInPlaceOrder : List (Entry D) → Type 0
+  IsInPlaceOrder = OrderedBy StandsBefore
 
   -- the records with a place of at most t
   abbrev pub up_to : ℕ → List (Entry D) → List (Entry D)
@@ -48,10 +60,18 @@ module _ {D : Type 0} where
   IsCountedFrom n [] = Unit {0}
   IsCountedFrom n (e ∷ es) = (e.index ≡ n) × IsCountedFrom (n + 1) es
 
+  -- each record with the number of its caller's records before it as its index, where `before k` of the caller k stand before the list
+  abbrev pub numbered : (ℕ → ℕ) → List (Entry D) → List (Entry D)
+  numbered before [] = []
+  numbered before (e ∷ es) = record e { index = before e.caller } ∷ numbered (with_at before e.caller (before e.caller + 1)) es
+
   -- two writers never share a place
   abbrev pub OneWriterAPlace : List (Entry D) → Type 0
-  OneWriterAPlace [] = Unit {0}
-  OneWriterAPlace (e ∷ es) = Each (λ x. IsTrue e.writer → IsTrue x.writer → e.place ≢ x.place) es × OneWriterAPlace es
+  OneWriterAPlace = OrderedBy (λ e x. IsTrue e.writer → IsTrue x.writer → e.place ≢ x.place)
+
+  -- no writer is at place 0, where everything is as it was opened
+  abbrev pub WritersArePlaced : List (Entry D) → Type 0
+  WritersArePlaced = Each (λ e. IsTrue e.writer → 0 < e.place)
 
   -- the records place by place up to p: at each place from 1 on its writer, if it has one, and then its readers; at place 0 readers alone
   abbrev pub merged : (ℕ → Option (Entry D)) → (ℕ → List (Entry D)) → ℕ → List (Entry D)
@@ -64,11 +84,11 @@ module _ {D : Type 0} where
   abbrev pub IsReaderAt : ℕ → Entry D → Type 0
   IsReaderAt p e = (e.place ≡ p) × IsFalse e.writer
 
-  -- the writer and the readers at each place are of that place, the readers in order
-  pub record AreOfTheirPlaces (writer : ℕ → Option (Entry D)) (readers : ℕ → List (Entry D)) : Type 0 where
+  -- the writer and the readers at each place are of that place, the readers in the order R
+  pub record AreOfTheirPlaces (R : Entry D → Entry D → Type 0) (writer : ℕ → Option (Entry D)) (readers : ℕ → List (Entry D)) : Type 0 where
     pub of_writers : (p : ℕ) → Each (IsWriterAt p) (option_to_list (writer p))
     pub of_readers : (p : ℕ) → Each (IsReaderAt p) (readers p)
-    pub ordered : (p : ℕ) → IsInOrder (readers p)
+    pub ordered : (p : ℕ) → OrderedBy R (readers p)
 
 -- all records of one caller
 pub record Book (D : Type 0) : Type 0 where
@@ -87,3 +107,9 @@ module _ {D : Type 0} where
     pub order : IsInOrder history
     pub all : (b : Book D) (e : Entry D) → IsIn b books → IsIn e b.records → IsIn e history
     pub only : (e : Entry D) → IsIn e history → (b : Book D) × IsIn b books × IsIn e b.records
+
+  -- the records of the caller k one after another: the indices are n, n + 1 and so on, no place is below the one before, which
+  -- the list begins above or at, and each writer's is above it
+  abbrev pub IsBookFrom : ℕ → ℕ → ℕ → List (Entry D) → Type 0
+  IsBookFrom k n p [] = Unit {0}
+  IsBookFrom k n p (e ∷ es) = (e.caller ≡ k) × (e.index ≡ n) × (p ≤ e.place) × (IsTrue e.writer → p < e.place) × IsBookFrom k (n + 1) e.place es

@@ -1,11 +1,17 @@
 pub mod Counts
+pub mod Ranges
+pub mod RunLayout
 pub mod Serial
 pub mod Kinds
 pub mod Entries
+pub mod Facts
 pub mod Runs
 pub mod Histories
+pub mod Sights
 pub mod Stores
 pub mod Parts
 pub mod Renaming
 pub mod Worked
+pub mod Wrong
 pub mod Laws
+pub mod Purposes

@@ -1,6 +1,6 @@
 //! What a store is laid out as, and what it holds at the end.
 
-use crate::{PlainList, Record};
+use crate::{PlainList, Record, Sight};
 
 /// The slots of a pool, and the items that it opens with in its first slots.
 #[derive(Debug, Drop)]
@@ -38,10 +38,11 @@ pub struct StoreState {
 
 fn may_be_shared<T: Send + Sync>(_value: &T) {}
 
-/// Layouts, contents and records may be handed to other threads and shared with them. This compiles only
-/// while that is so.
-pub fn cross_threads(layout: &Layout, contents: &StoreState, record: &Record) {
+/// Layouts, contents, records and sights may be handed to other threads and shared with them. This
+/// compiles only while that is so.
+pub fn cross_threads(layout: &Layout, contents: &StoreState, record: &Record, sight: &Sight) {
     may_be_shared(layout);
     may_be_shared(contents);
     may_be_shared(record);
+    may_be_shared(sight);
 }

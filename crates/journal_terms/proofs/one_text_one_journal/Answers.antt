@@ -1,5 +1,0 @@
-use Rattle.journal_terms.proofs.Records.{one_text}
-use Rattle.journal_terms.proofs.one_text_one_journal.Goals as goal
-
-pub returns : goal.returns
-returns c = one_text

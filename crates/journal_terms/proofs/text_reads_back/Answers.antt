@@ -1,5 +1,0 @@
-use Rattle.journal_terms.proofs.Records.{reads_back}
-use Rattle.journal_terms.proofs.text_reads_back.Goals as goal
-
-pub returns : goal.returns
-returns c = reads_back

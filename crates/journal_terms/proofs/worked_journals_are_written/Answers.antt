@@ -1,7 +1,0 @@
-use Rattle.std.proofs.Common.{refl, lit<, rules}
-use Rattle.std.specs.Fmt.{digits}
-use Rattle.journal_terms.proofs.worked_journals_are_written.Goals as goal
-
-pub returns : goal.returns
-unfolding digits
-returns c = record { whole_frame = refl; fragments = refl; calls = refl; writable = record { tasks = lit< tt; groups = lit< tt; findings = lit< tt; records = (record { caller = lit< tt; index = lit< tt; place = lit< tt; dones = tt }, (record { caller = lit< tt; index = lit< tt; place = lit< tt; dones = search rules }, (record { caller = lit< tt; index = lit< tt; place = lit< tt; dones = search rules }, (record { caller = lit< tt; index = lit< tt; place = lit< tt; dones = search rules }, tt)))) } }

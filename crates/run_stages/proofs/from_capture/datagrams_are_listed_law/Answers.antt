@@ -1,0 +1,5 @@
+use Rattle.run_stages.proofs.FromCapture.{items, all_items, items_values}
+use Rattle.run_stages.proofs.from_capture.datagrams_are_listed_law.Goals as goal
+
+pub returns : goal.returns
+returns c = λ rules bytes tasks groups ascend. (items rules bytes tasks groups, all_items rules bytes tasks groups ascend, items_values rules bytes tasks groups)

@@ -1,5 +1,0 @@
-use Rattle.run_stages.proofs.FromCapture.{group_datagram}
-use Rattle.run_stages.proofs.from_capture.group_is_datagram.Goals as goal
-
-pub returns : goal.returns
-returns c = group_datagram

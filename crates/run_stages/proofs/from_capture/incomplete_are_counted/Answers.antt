@@ -1,5 +1,0 @@
-use Rattle.run_stages.proofs.FromTasks.{incomplete_iff, incomplete_counted}
-use Rattle.run_stages.proofs.from_capture.incomplete_are_counted.Goals as goal
-
-pub returns : goal.returns
-returns c = λ rules bytes tasks groups. (incomplete_iff rules bytes tasks groups, incomplete_counted rules bytes tasks groups)

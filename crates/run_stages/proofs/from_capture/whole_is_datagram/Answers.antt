@@ -1,5 +1,0 @@
-use Rattle.run_stages.proofs.FromCapture.{whole_datagram}
-use Rattle.run_stages.proofs.from_capture.whole_is_datagram.Goals as goal
-
-pub returns : goal.returns
-returns c = whole_datagram

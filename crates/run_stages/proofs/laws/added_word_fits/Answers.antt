@@ -1,5 +1,0 @@
-use Rattle.run_stages.proofs.Telling.{word_fits}
-use Rattle.run_stages.proofs.laws.added_word_fits.Goals as goal
-
-pub returns : goal.returns
-returns c = word_fits

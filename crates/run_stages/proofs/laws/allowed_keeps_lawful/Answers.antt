@@ -1,5 +1,0 @@
-use Rattle.run_stages.proofs.Steps.{steps}
-use Rattle.run_stages.proofs.laws.allowed_keeps_lawful.Goals as goal
-
-pub returns : goal.returns
-returns c = steps

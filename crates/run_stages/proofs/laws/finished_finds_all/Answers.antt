@@ -1,5 +1,0 @@
-use Rattle.run_stages.proofs.Finishing.{all_found}
-use Rattle.run_stages.proofs.laws.finished_finds_all.Goals as goal
-
-pub returns : goal.returns
-returns c = all_found

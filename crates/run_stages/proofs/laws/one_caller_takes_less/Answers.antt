@@ -1,5 +1,0 @@
-use Rattle.run_stages.proofs.Telling.{takes_less}
-use Rattle.run_stages.proofs.laws.one_caller_takes_less.Goals as goal
-
-pub returns : goal.returns
-returns c = takes_less

@@ -1,5 +1,0 @@
-use Rattle.run_stages.proofs.Opens.{opening_lawful}
-use Rattle.run_stages.proofs.laws.opening_is_lawful.Goals as goal
-
-pub returns : goal.returns
-returns c = opening_lawful

@@ -1,5 +1,0 @@
-use Rattle.run_stages.proofs.Telling.{taken_task}
-use Rattle.run_stages.proofs.laws.taken_is_task.Goals as goal
-
-pub returns : goal.returns
-returns c = taken_task

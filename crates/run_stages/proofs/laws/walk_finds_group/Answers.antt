@@ -1,5 +1,0 @@
-use Rattle.run_stages.proofs.Telling.{walk_whole}
-use Rattle.run_stages.proofs.laws.walk_finds_group.Goals as goal
-
-pub returns : goal.returns
-returns c = walk_whole

@@ -1,5 +1,0 @@
-use Rattle.serial_terms.proofs.Books.{keeps_books}
-use Rattle.serial_terms.proofs.laws.history_keeps_books.Goals as goal
-
-pub returns : goal.returns
-returns c = keeps_books

@@ -1,5 +1,0 @@
-use Rattle.serial_terms.proofs.Legal.{in_order}
-use Rattle.serial_terms.proofs.laws.merged_is_in_order.Goals as goal
-
-pub returns : goal.returns
-returns c = in_order

@@ -1,5 +1,0 @@
-use Rattle.serial_terms.proofs.Commuting.{commute}
-use Rattle.serial_terms.proofs.laws.parts_commute.Goals as goal
-
-pub returns : goal.returns
-returns c = commute

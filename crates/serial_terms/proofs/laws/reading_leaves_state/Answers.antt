@@ -1,5 +1,0 @@
-use Rattle.serial_terms.proofs.Running.{reading}
-use Rattle.serial_terms.proofs.laws.reading_leaves_state.Goals as goal
-
-pub returns : goal.returns
-returns c = reading

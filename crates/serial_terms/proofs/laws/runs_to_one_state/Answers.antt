@@ -1,5 +1,0 @@
-use Rattle.serial_terms.proofs.Running.{to_one}
-use Rattle.serial_terms.proofs.laws.runs_to_one_state.Goals as goal
-
-pub returns : goal.returns
-returns c = to_one

@@ -1,5 +1,0 @@
-use Rattle.serial_terms.proofs.Running.{sizes}
-use Rattle.serial_terms.proofs.laws.sizes_stay.Goals as goal
-
-pub returns : goal.returns
-returns c = sizes

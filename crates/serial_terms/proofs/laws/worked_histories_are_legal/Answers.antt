@@ -1,5 +1,0 @@
-use Rattle.serial_terms.proofs.Worked.{worked_histories}
-use Rattle.serial_terms.proofs.laws.worked_histories_are_legal.Goals as goal
-
-pub returns : goal.returns
-returns c = worked_histories
