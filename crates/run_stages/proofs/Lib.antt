@@ -14,3 +14,6 @@ pub mod Batches
 pub mod FromTasks
 pub mod FromCapture
 pub mod Telling
+pub mod Wrong
+pub mod Ending
+pub mod Keys

@@ -1,5 +1,5 @@
 -- The work that the tasks of a capture's plan give under rules, and what its run finds.
-use Rattle.std.specs.Prelude.{◌≡◌, ℕ, ◌+◌, ◌<◌, ◌≤◌, false, List, [], ◌∷◌, length, slice_get, Some, map, AllPairs, IsPermutation, IsSome, is_some, count_by, ◌↔◌}
+use Rattle.std.specs.Prelude.{◌≡◌, ℕ, ◌+◌, ◌<◌, ◌≤◌, false, List, [], ◌∷◌, length, get_or, slice_get, Some, map, AllPairs, IsPermutation, IsSome, is_some, count_by, ◌↔◌}
 use Rattle.std.specs.List.{range_with_len}
 use Rattle.std.specs.Option.{option_map_or}
 use Rattle.capture_terms.specs.Capture.{contents_of}
@@ -12,9 +12,19 @@ use Rattle.capture_terms.specs.declared.plan.Task.{Task}
 use Rattle.rule_terms.specs.Rule.{Rule}
 use Rattle.inspection_terms.specs.Findings.{findings_in, all_findings, findings_of_capture}
 use Rattle.serial_terms.specs.declared.call.Reply.TheVariants.{Value}
+use Rattle.serial_terms.specs.declared.call.Done.{Done}
+use Rattle.serial_terms.specs.declared.sight.SightEnd.TheVariants.{Full}
+use Rattle.serial_terms.specs.declared.store.Layout.{Layout}
+use Rattle.serial_terms.specs.declared.store.StoreState.{StoreState}
 use Rattle.serial_terms.specs.Counts.{times}
+use Rattle.serial_terms.specs.Entries.{Entry, OrderedBy}
+use Rattle.serial_terms.specs.Histories.{Runs}
+use Rattle.serial_terms.specs.Sights.{EndsAs}
+use Rattle.serial_terms.specs.Stores.{state_of}
 use Rattle.serial_terms.specs.Serial.{State, first}
 use Rattle.run_stages.specs.Work.{Work, TaskFacts, IsSoundWork, IsWhole, IsMember, IsComplete, task, item_values, values_of}
+use Rattle.run_stages.specs.Allowed.{IsAllowed}
+use Rattle.run_stages.specs.Opening.{IsRunOfWork}
 use Rattle.run_stages.specs.Stages.{IsLawful}
 use Rattle.run_stages.specs.Ends.{IsFinished, AreAllDatagrams, IsIncomplete}
 
@@ -119,3 +129,29 @@ FinishedCountsIncomplete = (rules : List Rule) (bytes : List ℕ) (capture : Cap
     → ((h : ℕ) → IsSome (s.maps 0 h) → h < length planned.groups.items)
     × (count_by (λ h. is_some (s.maps 0 h)) (range_with_len 0 (length planned.groups.items))
     ≡ incomplete planned.tasks.items planned.groups.items)
+
+-- where an allowed record doesn't fit, the findings in the capture are more than the log may have
+abbrev pub FullLogMeansMore : Type 0
+FullLogMeansMore = (rules : List Rule) (bytes : List ℕ) (capture : Capture) (planned : Plan)
+    → IsClassifiable bytes capture → IsPlan bytes capture planned
+    → (s t : State) → IsLawful (work_of_plan rules bytes planned) s
+    → (ds : List Done) → IsAllowed (work_of_plan rules bytes planned) ds → Runs s ds t
+    → (values adding : ℕ) → EndsAs 1 t (Full 1 values adding)
+    → (t.logs 0).capacity < length (findings_of_capture rules bytes (contents_of capture))
+
+-- and the other way round: where a run was finished, they are no more than the log may have
+abbrev pub FindingsFitLog : Type 0
+FindingsFitLog = (rules : List Rule) (bytes : List ℕ) (capture : Capture) (planned : Plan)
+    → IsClassifiable bytes capture → IsPlan bytes capture planned
+    → (findings : ℕ) (records : List (Entry Done)) (end : State)
+    → IsRunOfWork (work_of_plan rules bytes planned) findings records end → IsFinished (work_of_plan rules bytes planned) end
+    → length (findings_of_capture rules bytes (contents_of capture)) ≤ findings
+
+-- in contents with ascending keys that stand for a finished lawful state, map 0 has as many keys as groups are incomplete
+abbrev pub KeysAreIncomplete : Type 0
+KeysAreIncomplete = (rules : List Rule) (bytes : List ℕ) (capture : Capture) (planned : Plan)
+    → IsClassifiable bytes capture → IsPlan bytes capture planned
+    → (layout : Layout) (contents : StoreState) → OrderedBy (λ p q. p.0 < q.0) (get_or contents.maps 0 [])
+    → IsLawful (work_of_plan rules bytes planned) (state_of layout contents)
+    → IsFinished (work_of_plan rules bytes planned) (state_of layout contents)
+    → length (get_or contents.maps 0 []) ≡ incomplete planned.tasks.items planned.groups.items

@@ -8,3 +8,4 @@ pub mod Worked
 pub mod Batches
 pub mod FromCapture
 pub mod Told
+pub mod Wrong

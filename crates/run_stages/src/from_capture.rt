@@ -1,8 +1,8 @@
 //! Laws of the work that a capture gives. Each function does nothing; what it ensures is the law.
 
-ghost use Rattle.run_stages.specs.FromCapture.{TasksHaveFacts, PlansAreWork, WholeIsDatagram, GroupIsDatagram, DatagramsAreListed, ValuesAreFindings, FinishedFindsCapture, LogIsPartOfFindings, IncompleteAreCounted, FinishedCountsIncomplete};
+ghost use Rattle.run_stages.specs.FromCapture.{TasksHaveFacts, PlansAreWork, WholeIsDatagram, GroupIsDatagram, DatagramsAreListed, ValuesAreFindings, FinishedFindsCapture, LogIsPartOfFindings, IncompleteAreCounted, FinishedCountsIncomplete, FullLogMeansMore, FindingsFitLog, KeysAreIncomplete};
 
-use crate::laws::log_is_part_of_all_law;
+use crate::laws::{finished_fits_log_law, full_is_the_log_law, log_is_part_of_all_law};
 use capture_terms::{group_law, task_law};
 
 /// What a run has of each task is what the task has.
@@ -66,4 +66,29 @@ pub fn finished_counts_incomplete_law()
     ensures { FinishedCountsIncomplete }
 {
     group_law();
+}
+
+/// Where an allowed record does not fit, the findings in the capture are more than the log may have.
+pub fn full_log_means_more_law()
+    ensures { FullLogMeansMore }
+{
+    plans_are_work_law();
+    full_is_the_log_law();
+    task_law();
+}
+
+/// Where a run was finished, the findings in the capture are no more than the log may have.
+pub fn findings_fit_log_law()
+    ensures { FindingsFitLog }
+{
+    plans_are_work_law();
+    finished_fits_log_law();
+    task_law();
+}
+
+/// In contents that stand for a finished lawful state map 0 has as many keys as groups are incomplete.
+pub fn keys_are_incomplete_law()
+    ensures { KeysAreIncomplete }
+{
+    plans_are_work_law();
 }

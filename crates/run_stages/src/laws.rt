@@ -1,13 +1,18 @@
 //! Laws of the run. Each function does nothing; what it ensures is the law.
 
+ghost use Rattle.std.specs.Prelude.{◌≡◌};
+ghost use Rattle.serial_terms.specs.Serial.{State};
 ghost use Rattle.run_stages.specs.Batches.{BatchesRun};
-ghost use Rattle.run_stages.specs.Told.{TakenIsTask, QueuedIsDatagram, AddedWordFits, WalkStaysInGroup, WalkFindsGroup, LogIsPartOfAll, OneCallerTakesLess};
+ghost use Rattle.run_stages.specs.Stages.{IsLawful};
+ghost use Rattle.run_stages.specs.Work.{Work};
+ghost use Rattle.run_stages.specs.Wrong.{WrongRecords, CountsAndLayouts};
+ghost use Rattle.run_stages.specs.Told.{TakenIsTask, QueuedIsDatagram, AddedWordFits, WalkStaysInGroup, WalkFindsGroup, LogIsPartOfAll, OneCallerTakesLess, FillFits, NothingIsLeft, FullIsTheLog, FinishedFitsLog};
 ghost use Rattle.run_stages.specs.Worked.{WorkedRuns};
 ghost use Rattle.run_stages.specs.Laws.{OpeningIsLawful, AllowedKeepsLawful, RunsEndLawful, RunsAreBounded, FillsAreCounted, FinishedFindsAll, FinishedKeepsIncomplete};
 
 use serial_terms::laws::{
-    capacities_stay_law, one_book_is_a_history_law, records_run_in_parts_law, runs_in_parts_law,
-    worked_histories_law,
+    capacities_stay_law, last_reads_see_end_law, one_book_is_a_history_law, records_keep_sizes_law,
+    records_run_in_parts_law, runs_in_parts_law, worked_histories_law,
 };
 
 /// The opening is a lawful state.
@@ -95,6 +100,49 @@ pub fn log_is_part_of_all_law()
 /// One caller's records take no more tasks and items than all records.
 pub fn one_caller_takes_less_law()
     ensures { OneCallerTakesLess }
+{}
+
+/// In a lawful state with an empty pool each Give of a fill finds a free slot; with an empty queue, too, the
+/// whole fill runs.
+pub fn fill_fits_law()
+    ensures { (w : Work) (s : State) → IsLawful w s → (s.pools 0).held ≡ 0 → FillFits w s }
+{}
+
+/// After records in which queue and pool gave nothing, and that no writer has a later place than, both are
+/// empty.
+pub fn nothing_is_left_law()
+    ensures { NothingIsLeft }
+{
+    last_reads_see_end_law();
+}
+
+/// Where an allowed record does not fit, the log alone has too little room, and all findings are more than
+/// it may have.
+pub fn full_is_the_log_law()
+    ensures { FullIsTheLog }
+{
+    allowed_keeps_lawful_law();
+    log_is_part_of_all_law();
+}
+
+/// The findings of all datagrams of a finished run are no more than the log may have.
+pub fn finished_fits_log_law()
+    ensures { FinishedFitsLog }
+{
+    records_keep_sizes_law();
+    capacities_stay_law();
+    runs_end_lawful_law();
+    finished_finds_all_law();
+}
+
+/// Records that are wrong in one point each are none that a worker may commit.
+pub fn wrong_records_law()
+    ensures { WrongRecords }
+{}
+
+/// What is counted of the worked runs' records, and the layouts of small works.
+pub fn counts_and_layouts_law()
+    ensures { CountsAndLayouts }
 {}
 
 /// The worked runs of one frame and of two fragments are legal histories of allowed records, from the

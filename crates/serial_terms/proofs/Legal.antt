@@ -111,8 +111,16 @@ pub leave_one : RecordsLeaveOneState
 leave_one = legal_once IsReplied step IsWithinCapacity
 
 pub keep_sizes : RecordsKeepSizes
-keep_sizes [] s t l = ((λ n. (ap (λ (z : State). (z.queues n).capacity) (sym l), ap (λ (z : State). (z.pools n).slots) (sym l), ap (λ (z : State). (z.logs n).capacity) (sym l))), tt)
-keep_sizes (e ∷ es) s t l = let r = keep_sizes es l.0 t l.4 in ((λ n. let a = r.0 n in let b = sizes e.dones s l.0 l.1 n in (a.0 ∙ b.0, a.1 ∙ b.1, a.2 ∙ b.2)), (kinds e.dones s l.0 l.1, r.1))
+keep_sizes [] s t l = record {
+  sizes = λ n. (ap (λ (z : State). (z.queues n).capacity) (sym l), ap (λ (z : State). (z.pools n).slots) (sym l), ap (λ (z : State). (z.logs n).capacity) (sym l));
+  kinds = tt;
+  within = λ w. subst IsWithinCapacity l w;
+}
+keep_sizes (e ∷ es) s t l = let r = keep_sizes es l.0 t l.4 in record {
+  sizes = λ n. let a = r.sizes n in let b = sizes e.dones s l.0 l.1 n in (a.0 ∙ b.0, a.1 ∙ b.1, a.2 ∙ b.2);
+  kinds = (kinds e.dones s l.0 l.1, r.kinds);
+  within = λ w. r.within l.2;
+}
 
 pub reads_see_end : LastReadsSeeEnd
 reads_see_end history start end o l e i r b = sees_end IsReplied step IsWithinCapacity history start end o l e i r b

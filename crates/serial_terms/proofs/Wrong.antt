@@ -50,7 +50,7 @@ pub wrong_sights : WrongSights
 unfolding opening_of
 wrong_sights = record {
   full_at_capacity = λ c. let l = c.2.2.1 in let a = ap (λ (z : State). (z.queues 0).capacity) c.1 in let b = ap (λ (z : State). (z.queues 0).capacity) c.2.1.1.1 in omega arith;
-  other_length = λ c. let l = c.2.2.0 in let a = ap (λ (z : State). length (z.queues 0).items) c.1 in let b = ap (λ (z : State). length (z.queues 0).items) (c.2.1.1.1.1) in let d = three c.0 c.1 in omega arith;
+  other_length = λ c. let l = c.2.2.0 in let b = ap (λ (z : State). length (z.queues 0).items) c.2.1.1.1.1 in let d = three c.0 c.1 in omega arith;
   log_by_own_number = λ c. let l = c.2.2.0 in let a = ap (λ (z : State). length (z.queues 0).items) c.1 in let b = ap (λ (z : State). length (z.queues 0).items) c.2.1.1.1.1 in omega arith;
   seen_too_early = λ c. let e : Value 70 ≡ Absent = c.2.1.0 ∙ nowhere c.0 c.1 in absurd (cc);
   too_many_before = λ a. let l = a.counted in omega arith;

@@ -105,12 +105,16 @@ RecordsRunInParts = (xs ys : List (Entry Done)) (s u : State)
 abbrev pub RecordsLeaveOneState : Type 0
 RecordsLeaveOneState = (es : List (Entry Done)) (s t u : State) → IsLegalRun s es t → IsLegalRun s es u → t ≡ u
 
--- and change no capacity and no number of slots, and each of their replies is of its call's kind
+-- they change no capacity and no number of slots, each of their replies is of its call's kind, and they leave a state within its
+-- capacities
+pub record AreKept (es : List (Entry Done)) (s t : State) : Type 0 where
+  pub sizes : (n : ℕ) → ((t.queues n).capacity ≡ (s.queues n).capacity) × ((t.pools n).slots ≡ (s.pools n).slots)
+      × ((t.logs n).capacity ≡ (s.logs n).capacity)
+  pub kinds : Each (λ e. Each HasKind e.dones) es
+  pub within : IsWithinCapacity s → IsWithinCapacity t
+
 abbrev pub RecordsKeepSizes : Type 0
-RecordsKeepSizes = (es : List (Entry Done)) (s t : State) → IsLegalRun s es t
-    → ((n : ℕ) → ((t.queues n).capacity ≡ (s.queues n).capacity) × ((t.pools n).slots ≡ (s.pools n).slots)
-    × ((t.logs n).capacity ≡ (s.logs n).capacity))
-    × Each (λ e. Each HasKind e.dones) es
+RecordsKeepSizes = (es : List (Entry Done)) (s t : State) → IsLegalRun s es t → AreKept es s t
 
 -- where a structure within its capacity is put, the state stays within its capacities
 pub record CapacitiesStay : Type 0 where

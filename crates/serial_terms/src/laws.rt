@@ -105,7 +105,8 @@ pub fn records_leave_one_state_law()
     ensures { RecordsLeaveOneState }
 {}
 
-/// Records change no capacity and no number of slots, and each of their replies is of its call's kind.
+/// Records change no capacity and no number of slots, each of their replies is of its call's kind, and they
+/// leave a state within its capacities.
 pub fn records_keep_sizes_law()
     ensures { RecordsKeepSizes }
 {}
