@@ -1,13 +1,15 @@
 -- A record's line reads back as the record, and the journal's text as the journal.
-use Rattle.std.proofs.Common.{◌≡◌, ℕ, Bool, true, false, eqb, List, [], ◌∷◌, ◌++◌, map, sym, refl, ap, ◌∙◌, Some, codes, decimal}
+use Rattle.std.specs.Prelude.{Option}
+use Rattle.std.proofs.lemmas.Bool.{cond-false}
+use Rattle.std.proofs.Common.{append_assoc, ◌≡◌, ℕ, Bool, true, false, eqb, List, [], ◌∷◌, ◌++◌, map, sym, refl, ap, ◌∙◌, Some, None, codes, decimal}
 use Rattle.std.specs.Str.{bytes_eq}
 use Rattle.std.specs.List.{join_with_byte}
 use Rattle.std.proofs.lemmas.List.Elements.{All-cons, All-append}
 use Rattle.serial_terms.specs.declared.call.Done.{Done}
 use Rattle.serial_terms.specs.Entries.{Entry, Each}
-use Rattle.journal_terms.specs.Text.{Journal, space, line_feed, colon, writer_word, calls_text, record_text, open_text, journal_lines}
-use Rattle.journal_terms.specs.Reading.{cut_at, read_head, read_parts, read_record, also, read_records, read_open, read_lines, read_journal}
-use Rattle.journal_terms.specs.Laws.{IsWritableEntry, IsWritableJournal, TextReadsBack, OneTextOneJournal}
+use Rattle.journal_terms.specs.Text.{Journal, journal_text, space, line_feed, colon, writer_word, calls_text, record_text, open_text, journal_lines}
+use Rattle.journal_terms.specs.Reading.{cut_at, read_head, read_parts, read_record, is_record_line, with_record, without_records, read_records, read_end, read_open, read_lines, read_journal}
+use Rattle.journal_terms.specs.Laws.{IsWritableEntry, IsWritableJournal, IsJournalText, TextReadsBack, OneTextOneJournal, JournalTextsAreRead}
 use Rattle.journal_terms.proofs.Cutting.{Lacks, cut_first, cut_last, cut_join, cut_lines, lacks_join, lacks_plain}
 use Rattle.journal_terms.proofs.Words.{IsWord, plain_word, decimal_word, number_back}
 use Rattle.journal_terms.proofs.Calls.{calls_lack, calls_back, each_map}
@@ -48,9 +50,22 @@ records_lack : (es : List (Entry Done)) → Each IsWritableEntry es → Each (La
 records_lack [] w = (lacks_plain line_feed refl (codes "end") refl, tt)
 records_lack (e ∷ es) w = (record_lacks e w.0, records_lack es w.1)
 
-records_back : (es : List (Entry Done)) → Each IsWritableEntry es → read_records ((map record_text es ++ codes "end" ∷ []) ++ [] ∷ []) ≡ Some es
-records_back [] w = refl
-records_back (e ∷ es) w = λ i. also (record_back e w.0 i) (records_back es w.1 i)
+-- behind the records stand lines of which the first one is no record's
+abbrev pub BeginsOther : List (List ℕ) → Type 0
+BeginsOther [] = Unit {0}
+BeginsOther (line ∷ lines) = is_record_line line ≡ false
+
+module _ {A : Type 0} (read_tail : List (List ℕ) → Option A) (tail : List (List ℕ)) (a : A) where
+  tail_back : BeginsOther tail → read_tail tail ≡ Some a → read_records read_tail tail ≡ Some ([], a)
+  tail_back o e = by_case tail o e
+    where
+      by_case : (lines : List (List ℕ)) → BeginsOther lines → read_tail lines ≡ Some a → read_records read_tail lines ≡ Some ([], a)
+      by_case [] p q = ap without_records q
+      by_case (line ∷ lines) p q = cond-false (is_record_line line) (with_record (read_record line) (read_records read_tail lines)) (without_records (read_tail (line ∷ lines))) p ∙ ap without_records q
+
+  pub records_back : BeginsOther tail → read_tail tail ≡ Some a → (es : List (Entry Done)) → Each IsWritableEntry es → read_records read_tail (map record_text es ++ tail) ≡ Some (es, a)
+  records_back o q [] w = tail_back o q
+  records_back o q (e ∷ es) w = λ i. with_record (record_back e w.0 i) (records_back o q es w.1 i)
 
 open_are : (j : Journal) → IsWritableJournal j → Each IsWord (codes "open" ∷ decimal j.tasks ∷ decimal j.groups ∷ decimal j.findings ∷ [])
 open_are j w = (plain_word (codes "open") refl, (decimal_word j.tasks w.tasks, (decimal_word j.groups w.groups, (decimal_word j.findings w.findings, tt))))
@@ -63,8 +78,19 @@ pub reads_back : TextReadsBack
 reads_back j w = let lines : List (List ℕ) = map record_text j.records ++ codes "end" ∷ [] in
     let words : List (List ℕ) = decimal j.tasks ∷ decimal j.groups ∷ decimal j.findings ∷ [] in
     let cut : cut_at space (open_text j) ≡ codes "open" ∷ words = cut_join space (codes "open") words (each_map IsWord (Lacks space) (λ x f. f.spaces) (codes "open" ∷ words) (open_are j w)) in
-    ap read_lines (cut_lines (journal_lines j) (lines_lack j w)) ∙ ((λ i. read_open (cut i) (records_back j.records w.records i))
+    let behind : read_records read_end ((map record_text j.records ++ codes "end" ∷ []) ++ [] ∷ []) ≡ Some (j.records, tt) = ap (read_records read_end) (append_assoc (map record_text j.records) (codes "end" ∷ []) ([] ∷ [])) ∙ records_back read_end (codes "end" ∷ [] ∷ []) tt refl refl j.records w.records in
+    ap read_lines (cut_lines (journal_lines j) (lines_lack j w)) ∙ ((λ i. read_open (cut i) (behind i))
     ∙ (λ i. Some record { tasks = number_back j.tasks w.tasks i; groups = number_back j.groups w.groups i; findings = number_back j.findings w.findings i; records = j.records }))
 
 pub one_text : OneTextOneJournal
 one_text j k w x e = let same : Some j ≡ Some k = sym (reads_back j w) ∙ (ap read_journal e ∙ reads_back k x) in cc
+
+pub are_read : JournalTextsAreRead
+are_read text = ((λ t. (t.0, ap read_journal (sym t.2) ∙ reads_back t.0 t.1, t.1, t.2)), (λ t. (t.0, t.2, t.3)))
+
+-- a text that reads as a journal with another text, or as none, is no journal's
+pub other_text : (text : List ℕ) (j : Journal) → read_journal text ≡ Some j → (journal_text j ≡ text → ⊥) → IsJournalText text → ⊥
+other_text text j r n t = let e : Some t.0 ≡ Some j = sym (ap read_journal (sym t.2) ∙ reads_back t.0 t.1) ∙ r in let same : t.0 ≡ j = cc in n (ap journal_text (sym same) ∙ t.2)
+
+pub not_read : (text : List ℕ) → read_journal text ≡ None → IsJournalText text → ⊥
+not_read text r t = let e : Some t.0 ≡ None = sym (ap read_journal (sym t.2) ∙ reads_back t.0 t.1) ∙ r in absurd (cc)

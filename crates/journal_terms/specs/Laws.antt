@@ -1,5 +1,5 @@
 -- The laws of the journal's text.
-use Rattle.std.specs.Prelude.{◌≡◌, ℕ, ◌^◌, ◌<◌, Some}
+use Rattle.std.specs.Prelude.{◌≡◌, ◌↔◌, ℕ, ◌^◌, ◌<◌, List, Some}
 use Rattle.serial_terms.specs.declared.call.Call.{Call}
 use Rattle.serial_terms.specs.declared.call.Call.TheVariants.{MapGet, MapPut, MapRemove, MapPutIfAbsent, Enqueue, Dequeue, QueueLen, Take, Give, Append, AppendPlaced, LogRead, LogLen, CellGet, CellPut}
 use Rattle.serial_terms.specs.declared.call.Reply.{Reply}
@@ -53,9 +53,18 @@ pub record IsWritableJournal (j : Journal) : Type 0 where
   pub findings : IsShort j.findings
   pub records : Each IsWritableEntry j.records
 
+-- the text is a journal's
+abbrev pub IsJournalText : List ℕ → Type 0
+IsJournalText text = (j : Journal) × IsWritableJournal j × (journal_text j ≡ text)
+
 -- reading the text of a journal gives the journal
 abbrev pub TextReadsBack : Type 0
 TextReadsBack = (j : Journal) → IsWritableJournal j → read_journal (journal_text j) ≡ Some j
 
 abbrev pub OneTextOneJournal : Type 0
 OneTextOneJournal = (j k : Journal) → IsWritableJournal j → IsWritableJournal k → journal_text j ≡ journal_text k → j ≡ k
+
+-- so a text is a journal's exactly where the journal that it reads as can be written, and has this text
+abbrev pub JournalTextsAreRead : Type 0
+JournalTextsAreRead = (text : List ℕ) → IsJournalText text
+    ↔ ((j : Journal) × (read_journal text ≡ Some j) × IsWritableJournal j × (journal_text j ≡ text))

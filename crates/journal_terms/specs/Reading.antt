@@ -1,4 +1,8 @@
 -- A reading of the journal's text: lines are cut at line feeds, a record at its colon, its calls at semicolons, and words at spaces.
+--
+-- It gives each journal back from its text, and is lenient about texts that are no journal's: a word where a number stands is taken for
+-- one whatever its bytes are and however many zeros it begins with, each word but `yes` says that an item wasn't added, and each but
+-- `w` that a record is read-only. So whether a text is a journal's is said by the text of the journal that was read (Laws.antt).
 use Rattle.std.specs.Prelude.{ℕ, Bool, true, false, ◌==◌, if◌then◌else◌, List, [], ◌∷◌, Option, Some, None, codes}
 use Rattle.std.specs.Str.{bytes_eq}
 use Rattle.std.specs.Str.Parse.{digits_value}
@@ -88,22 +92,37 @@ read_parts _ = None
 abbrev pub read_record : List ℕ → Option (Entry Done)
 read_record line = read_parts (cut_at colon line)
 
--- nothing stands behind the last line
-abbrev pub read_end : List (List ℕ) → Option (List (Entry Done))
-read_end ([] ∷ []) = Some []
+-- a record's line is one that begins with the letter t
+abbrev pub is_record_line : List ℕ → Bool
+is_record_line [] = false
+is_record_line (b ∷ bs) = b == 116
+
+-- ---- records, and what a reader of the lines behind them gives
+
+module _ {A : Type 0} where
+  abbrev pub with_record : Option (Entry Done) → Option (List (Entry Done) × A) → Option (List (Entry Done) × A)
+  with_record (Some e) (Some p) = Some (e ∷ p.0, p.1)
+  with_record _ _ = None
+
+  abbrev pub without_records : Option A → Option (List (Entry Done) × A)
+  without_records (Some a) = Some ([], a)
+  without_records None = None
+
+  abbrev pub read_records : (List (List ℕ) → Option A) → List (List ℕ) → Option (List (Entry Done) × A)
+  read_records read_tail [] = without_records (read_tail [])
+  read_records read_tail (line ∷ lines) = if is_record_line line then with_record (read_record line) (read_records read_tail lines) else without_records (read_tail (line ∷ lines))
+
+-- in version 1 the line `end` stands behind the records, and nothing behind it
+abbrev pub read_end : List (List ℕ) → Option (Unit {0})
+read_end (line ∷ [] ∷ []) = if bytes_eq line (codes "end") then Some tt else None
 read_end _ = None
 
--- the records' lines up to the line `end`
-abbrev pub read_records : List (List ℕ) → Option (List (Entry Done))
-read_records [] = None
-read_records (line ∷ lines) = if bytes_eq line (codes "end") then read_end lines else also (read_record line) (read_records lines)
-
-abbrev pub read_open : List (List ℕ) → Option (List (Entry Done)) → Option Journal
-read_open (o ∷ tasks ∷ groups ∷ findings ∷ []) (Some records) = if bytes_eq o (codes "open") then Some record { tasks = number tasks; groups = number groups; findings = number findings; records = records } else None
+abbrev pub read_open : List (List ℕ) → Option (List (Entry Done) × Unit {0}) → Option Journal
+read_open (o ∷ tasks ∷ groups ∷ findings ∷ []) (Some read) = if bytes_eq o (codes "open") then Some record { tasks = number tasks; groups = number groups; findings = number findings; records = read.0 } else None
 read_open _ _ = None
 
 abbrev pub read_lines : List (List ℕ) → Option Journal
-read_lines (title ∷ head ∷ lines) = if bytes_eq title (codes "journal 1") then read_open (cut_at space head) (read_records lines) else None
+read_lines (title ∷ head ∷ lines) = if bytes_eq title (codes "journal 1") then read_open (cut_at space head) (read_records read_end lines) else None
 read_lines _ = None
 
 abbrev pub read_journal : List ℕ → Option Journal

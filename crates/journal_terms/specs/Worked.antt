@@ -1,44 +1,16 @@
 -- Worked journals: the runs of one worker on a whole frame, and on a datagram of two fragments of which the last comes
 -- first, and a journal with each form of each call.
-use Rattle.std.specs.Prelude.{◌≡◌, ℕ, Bool, true, false, List, [], ◌∷◌, codes}
-use Rattle.serial_terms.specs.declared.call.Call.{Call}
+use Rattle.std.specs.Prelude.{◌≡◌, ℕ, true, false, List, [], ◌∷◌, Some, None, codes}
 use Rattle.serial_terms.specs.declared.call.Call.TheVariants.{MapGet, MapPut, MapRemove, MapPutIfAbsent, Enqueue, Dequeue, QueueLen, Take, Give, Append, AppendPlaced, LogRead, LogLen, CellGet, CellPut}
-use Rattle.serial_terms.specs.declared.call.Reply.{Reply}
 use Rattle.serial_terms.specs.declared.call.Reply.TheVariants.{Nothing, Absent, Value, Flag}
-use Rattle.serial_terms.specs.declared.call.Done.{Done}
-use Rattle.serial_terms.specs.Entries.{Entry}
+use Rattle.serial_terms.specs.Serial.{outside, in_child}
+use Rattle.serial_terms.specs.Worked.{writes, reads, one_frame_records, two_fragments_records}
+use Rattle.journal_terms.specs.Reading.{read_journal}
 use Rattle.journal_terms.specs.Text.{Journal, journal_text, lines_text}
-use Rattle.journal_terms.specs.Laws.{IsWritableJournal}
-
-abbrev pub outside : Call → Reply → Done
-outside call reply = record { call = call; reply = reply; child = false }
-
-abbrev pub in_child : Call → Reply → Done
-in_child call reply = record { call = call; reply = reply; child = true }
-
-abbrev pub record_at : ℕ → Bool → ℕ → List Done → Entry Done
-record_at place writer index dones = record { caller = 0; index = index; place = place; writer = writer; dones = dones }
-
-abbrev pub no_item : Done
-no_item = outside (Dequeue 0) Absent
-
-abbrev pub no_task : Done
-no_task = outside (Take 0) Absent
+use Rattle.journal_terms.specs.Laws.{IsWritableJournal, IsJournalText}
 
 abbrev pub one_frame : Journal
-one_frame = record {
-  tasks = 1;
-  groups = 0;
-  findings = 65536;
-  records =
-      record_at 0 false 0 (no_item ∷ []) ∷
-      record_at 1 true 1 (outside (Take 0) (Value 0) ∷ in_child (Enqueue 0 0) Nothing ∷ []) ∷
-      record_at 2 true 2 (outside (Dequeue 0) (Value 0) ∷ in_child (AppendPlaced 0 8) (Value 0) ∷ []) ∷
-      record_at 2 false 3 (no_item ∷ []) ∷
-      record_at 2 false 4 (no_task ∷ []) ∷
-      record_at 2 false 5 (no_item ∷ []) ∷
-      record_at 2 false 6 (no_task ∷ []) ∷ [];
-}
+one_frame = record { tasks = 1; groups = 0; findings = 65536; records = one_frame_records }
 
 abbrev pub one_frame_lines : List (List ℕ)
 one_frame_lines =
@@ -54,21 +26,7 @@ one_frame_lines =
     codes "end" ∷ []
 
 abbrev pub two_fragments : Journal
-two_fragments = record {
-  tasks = 2;
-  groups = 1;
-  findings = 65536;
-  records =
-      record_at 0 false 0 (no_item ∷ []) ∷
-      record_at 1 true 1 (outside (Take 0) (Value 0) ∷ in_child (MapGet 0 0) Absent ∷ in_child (MapPut 0 0 262156) Nothing ∷ []) ∷
-      record_at 1 false 2 (no_item ∷ []) ∷
-      record_at 2 true 3 (outside (Take 0) (Value 1) ∷ in_child (MapGet 0 0) (Value 262156) ∷ in_child (MapPut 0 0 4295753740) Nothing ∷ in_child (MapPut 1 1 0) Nothing ∷ in_child (Enqueue 0 1) Nothing ∷ []) ∷
-      record_at 3 true 4 (outside (Dequeue 0) (Value 1) ∷ outside (MapGet 0 0) (Value 4295753740) ∷ outside (MapRemove 0 0) Nothing ∷ outside (MapGet 1 1) (Value 0) ∷ outside (MapRemove 1 1) Nothing ∷ outside (MapGet 1 0) Absent ∷ in_child (AppendPlaced 0 6) (Value 0) ∷ []) ∷
-      record_at 3 false 5 (no_item ∷ []) ∷
-      record_at 3 false 6 (no_task ∷ []) ∷
-      record_at 3 false 7 (no_item ∷ []) ∷
-      record_at 3 false 8 (no_task ∷ []) ∷ [];
-}
+two_fragments = record { tasks = 2; groups = 1; findings = 65536; records = two_fragments_records }
 
 abbrev pub two_fragments_lines : List (List ℕ)
 two_fragments_lines =
@@ -91,10 +49,10 @@ each_call = record {
   groups = 0;
   findings = 1;
   records =
-      record { caller = 15; index = 0; place = 0; writer = false; dones = [] } ∷
-      record_at 7 true 12 (outside (MapGet 1 2) (Value 3) ∷ outside (MapGet 1 2) Absent ∷ outside (MapPut 1 2 3) Nothing ∷ outside (MapRemove 1 2) Nothing ∷ outside (MapPutIfAbsent 1 2 3) (Value 4) ∷ outside (MapPutIfAbsent 1 2 3) Absent ∷ []) ∷
-      record_at 8 true 13 (outside (Enqueue 1 2) Nothing ∷ outside (Dequeue 1) (Value 2) ∷ outside (Dequeue 1) Absent ∷ outside (QueueLen 1) (Value 2) ∷ outside (Take 1) (Value 2) ∷ outside (Take 1) Absent ∷ outside (Give 1 2) (Flag true) ∷ outside (Give 1 2) (Flag false) ∷ []) ∷
-      record_at 9 true 14 (in_child (Append 1 2) Nothing ∷ in_child (AppendPlaced 1 2) (Value 3) ∷ outside (LogRead 1 2) (Value 3) ∷ outside (LogRead 1 2) Absent ∷ outside (LogLen 1) (Value 2) ∷ outside (CellGet 1) (Value 18446744073709551615) ∷ outside (CellPut 1 2) Nothing ∷ []) ∷ [];
+      reads 15 0 0 [] ∷
+      writes 0 12 7 (outside (MapGet 1 2) (Value 3) ∷ outside (MapGet 1 2) Absent ∷ outside (MapPut 1 2 3) Nothing ∷ outside (MapRemove 1 2) Nothing ∷ outside (MapPutIfAbsent 1 2 3) (Value 4) ∷ outside (MapPutIfAbsent 1 2 3) Absent ∷ []) ∷
+      writes 0 13 8 (outside (Enqueue 1 2) Nothing ∷ outside (Dequeue 1) (Value 2) ∷ outside (Dequeue 1) Absent ∷ outside (QueueLen 1) (Value 2) ∷ outside (Take 1) (Value 2) ∷ outside (Take 1) Absent ∷ outside (Give 1 2) (Flag true) ∷ outside (Give 1 2) (Flag false) ∷ []) ∷
+      writes 0 14 9 (in_child (Append 1 2) Nothing ∷ in_child (AppendPlaced 1 2) (Value 3) ∷ outside (LogRead 1 2) (Value 3) ∷ outside (LogRead 1 2) Absent ∷ outside (LogLen 1) (Value 2) ∷ outside (CellGet 1) (Value 18446744073709551615) ∷ outside (CellPut 1 2) Nothing ∷ []) ∷ [];
 }
 
 abbrev pub each_call_lines : List (List ℕ)
@@ -113,3 +71,28 @@ pub record WorkedJournals : Type 0 where
   pub fragments : journal_text two_fragments ≡ lines_text two_fragments_lines
   pub calls : journal_text each_call ≡ lines_text each_call_lines
   pub writable : IsWritableJournal each_call
+
+-- texts that are no journal's: some that the reading takes for one all the same, and some that it doesn't
+abbrev pub empty : ℕ → Journal
+empty tasks = record { tasks = tasks; groups = 0; findings = 7; records = [] }
+
+abbrev pub with_zero : List ℕ
+with_zero = lines_text (codes "journal 1" ∷ codes "open 01 0 7" ∷ codes "end" ∷ [])
+
+abbrev pub with_letter : List ℕ
+with_letter = lines_text (codes "journal 1" ∷ codes "open 0 0 7" ∷ codes "t 0 read 0 0:" ∷ codes "end" ∷ [])
+
+abbrev pub with_answer : List ℕ
+with_answer = lines_text (codes "journal 1" ∷ codes "open 0 0 7" ∷ codes "t 0 r 0 0: give 0 1 maybe" ∷ codes "end" ∷ [])
+
+pub record WrongJournals : Type 0 where
+  pub zero_read : read_journal with_zero ≡ Some (empty 1)
+  pub zero : IsJournalText with_zero → ⊥
+  pub letter_read : read_journal with_letter ≡ Some record { tasks = 0; groups = 0; findings = 7; records = reads 0 0 0 [] ∷ [] }
+  pub letter : IsJournalText with_letter → ⊥
+  pub answer_read : read_journal with_answer ≡ Some record { tasks = 0; groups = 0; findings = 7; records = reads 0 0 0 (outside (Give 0 1) (Flag false) ∷ []) ∷ [] }
+  pub answer : IsJournalText with_answer → ⊥
+  pub no_end : IsJournalText (lines_text (codes "journal 1" ∷ codes "open 0 0 7" ∷ [])) → ⊥
+  pub behind_end : IsJournalText (lines_text (codes "journal 1" ∷ codes "open 0 0 7" ∷ codes "end" ∷ codes "end" ∷ [])) → ⊥
+  pub other_version : IsJournalText (lines_text (codes "journal 2" ∷ codes "open 0 0 7" ∷ codes "end" ∷ [])) → ⊥
+  pub two_spaces : IsJournalText (lines_text (codes "journal 1" ∷ codes "open 0 0  7" ∷ codes "end" ∷ [])) → ⊥
