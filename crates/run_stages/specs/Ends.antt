@@ -6,7 +6,7 @@ use Rattle.serial_terms.specs.declared.call.Reply.{Reply}
 use Rattle.serial_terms.specs.declared.call.Reply.TheVariants.{Value}
 use Rattle.serial_terms.specs.declared.call.Done.{Done}
 use Rattle.serial_terms.specs.Counts.{times}
-use Rattle.serial_terms.specs.Entries.{Entry}
+use Rattle.serial_terms.specs.Entries.{Entry, total}
 use Rattle.serial_terms.specs.Serial.{State}
 use Rattle.run_stages.specs.Work.{Work, IsWhole, IsComplete, given_count, task_item, group_item}
 
@@ -56,14 +56,11 @@ is_fill (d ∷ ds) = asks_length d.call
 
 -- how many of the records fill the pool
 abbrev pub fills_made : List (Entry Done) → ℕ
-fills_made [] = 0
-fills_made (e ∷ es) = is_fill e.dones + fills_made es
+fills_made = total (λ e. is_fill e.dones)
 
 -- how many tasks and items the records took
 abbrev pub all_tasks_taken : List (Entry Done) → ℕ
-all_tasks_taken [] = 0
-all_tasks_taken (e ∷ es) = tasks_taken e.dones + all_tasks_taken es
+all_tasks_taken = total (λ e. tasks_taken e.dones)
 
 abbrev pub all_items_taken : List (Entry Done) → ℕ
-all_items_taken [] = 0
-all_items_taken (e ∷ es) = items_taken e.dones + all_items_taken es
+all_items_taken = total (λ e. items_taken e.dones)

@@ -1,9 +1,9 @@
 -- A history of books.
-use Rattle.std.proofs.Common.{◌≡◌, ◌≢◌, ℕ, eqb, List, [], ◌∷◌, inl, inr, ⊎_elim, sym, refl, ap, ◌∙◌, subst, eq-eqb, ne_eqb}
+use Rattle.std.proofs.Common.{◌≡◌, ◌≢◌, ℕ, ◌+◌, eqb, List, [], ◌∷◌, inl, inr, ⊎_elim, sym, refl, ap, ◌∙◌, subst, arith, eq-eqb, ne_eqb}
 use mathlib.Core.Logic.{dite}
 use native.Mathlib.Decide.{ℕ_discrete}
-use Rattle.serial_terms.specs.Entries.{Entry, Each, IsIn, Precedes, IsInOrder, by_caller, Book, AreBooks, IsHistoryOf}
-use Rattle.serial_terms.specs.Laws.{HistoryKeepsBooks}
+use Rattle.serial_terms.specs.Entries.{Entry, Each, IsIn, Precedes, IsInOrder, by_caller, Book, AreBooks, IsHistoryOf, total, total_of_books}
+use Rattle.serial_terms.specs.Laws.{HistoryKeepsBooks, BooksSumToHistory}
 use Rattle.serial_terms.proofs.Ordering.{unique}
 use Rattle.std.proofs.lemmas.Bool.{cond-true, cond-false}
 use Rattle.serial_terms.proofs.Basics.{in_each}
@@ -67,6 +67,47 @@ module _ {D : Type 0} where
 
     pub only_one : (g : List (Entry D)) → IsHistoryOf bs g → g ≡ h
     only_one g o = unique g h o.order is.order (λ x j. let b = o.only x j in is.all b.0 x b.1 b.2) (λ x j. let b = is.only x j in o.all b.0 x b.1 b.2)
+
+-- ---- sums
+
+module _ {D : Type 0} (f : Entry D → ℕ) where
+  -- the sum over the records of the callers of these books
+  abbrev sum_of : List (Book D) → List (Entry D) → ℕ
+  sum_of [] h = 0
+  sum_of (b ∷ bs) h = total f (by_caller b.caller h) + sum_of bs h
+
+  sum_none : (bs : List (Book D)) → sum_of bs [] ≡ 0
+  sum_none [] = refl
+  sum_none (b ∷ bs) = let i = sum_none bs in omega arith
+
+  sum_others : (e : Entry D) (es : List (Entry D)) (bs : List (Book D)) → Each (λ c. e.caller ≢ c.caller) bs → sum_of bs (e ∷ es) ≡ sum_of bs es
+  sum_others e es [] n = refl
+  sum_others e es (b ∷ bs) n = let a = ap (total f) (other b.caller e es n.0) in let i = sum_others e es bs n.1 in omega arith
+
+  sum_more : (e : Entry D) (es : List (Entry D)) (bs : List (Book D)) (b : Book D) → AreBooks bs → IsIn b bs → e.caller ≡ b.caller → sum_of bs (e ∷ es) ≡ f e + sum_of bs es
+  sum_more e es [] b a i q = absurd i
+  sum_more e es (c ∷ cs) b a i q = ⊎_elim
+      (λ y. let same : e.caller ≡ c.caller = q ∙ ap (λ (z : Book D). z.caller) (sym y) in
+      let t = ap (total f) (own c.caller e es same) in
+      let r = sum_others e es cs (subst (λ (z : ℕ). Each (λ (x : Book D). z ≢ x.caller) cs) (sym same) a.2) in omega arith)
+      (λ j. let apart : e.caller ≢ c.caller = λ z. in_each (λ (x : Book D). c.caller ≢ x.caller) b cs j a.2 (sym z ∙ q) in
+      let t = ap (total f) (other c.caller e es apart) in let r = sum_more e es cs b a.3 j q in omega arith)
+      i
+
+  sum_all : (bs : List (Book D)) → AreBooks bs → (h : List (Entry D)) → ((e : Entry D) → IsIn e h → (b : Book D) × IsIn b bs × (e.caller ≡ b.caller)) → total f h ≡ sum_of bs h
+  sum_all bs a [] c = sym (sum_none bs)
+  sum_all bs a (e ∷ es) c = let b = c e (inl refl) in let i = sum_all bs a es (λ x j. c x (inr j)) in let m = sum_more e es bs b.0 a b.1 b.2 in omega arith
+
+  sum_books : (h : List (Entry D)) (bs : List (Book D)) → ((b : Book D) → IsIn b bs → by_caller b.caller h ≡ b.records) → sum_of bs h ≡ total_of_books f bs
+  sum_books h [] e = refl
+  sum_books h (b ∷ bs) e = let t = ap (total f) (e b (inl refl)) in let i = sum_books h bs (λ c j. e c (inr j)) in omega arith
+
+  pub sums : (bs : List (Book D)) → AreBooks bs → (h : List (Entry D)) → IsHistoryOf bs h → total f h ≡ total_of_books f bs
+  sums bs a h is = sum_all bs a h (λ e i. let o = is.only e i in (o.0, o.1, in_each (λ (x : Entry D). x.caller ≡ o.0.caller) e o.0.records o.2 (book_of bs o.0 a o.1).0))
+      ∙ sum_books h bs (as_booked bs a h is)
+
+pub books_sum : BooksSumToHistory
+books_sum f bs a h is = sums f bs a h is
 
 pub keeps_books : HistoryKeepsBooks
 keeps_books bs a h is = (as_booked bs a h is, nobody bs a h is, only_one bs a h is)

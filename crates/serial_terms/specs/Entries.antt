@@ -69,6 +69,11 @@ module _ {D : Type 0} where
   abbrev pub OneWriterAPlace : List (Entry D) → Type 0
   OneWriterAPlace = OrderedBy (λ e x. IsTrue e.writer → IsTrue x.writer → e.place ≢ x.place)
 
+  -- the sum of f over the records
+  abbrev pub total : (Entry D → ℕ) → List (Entry D) → ℕ
+  total f [] = 0
+  total f (e ∷ es) = f e + total f es
+
   -- no writer is at place 0, where everything is as it was opened
   abbrev pub WritersArePlaced : List (Entry D) → Type 0
   WritersArePlaced = Each (λ e. IsTrue e.writer → 0 < e.place)
@@ -108,8 +113,13 @@ module _ {D : Type 0} where
     pub all : (b : Book D) (e : Entry D) → IsIn b books → IsIn e b.records → IsIn e history
     pub only : (e : Entry D) → IsIn e history → (b : Book D) × IsIn b books × IsIn e b.records
 
-  -- the records of the caller k one after another: the indices are n, n + 1 and so on, no place is below the one before, which
-  -- the list begins above or at, and each writer's is above it
+  -- the sum of f over the records of all books
+  abbrev pub total_of_books : (Entry D → ℕ) → List (Book D) → ℕ
+  total_of_books f [] = 0
+  total_of_books f (b ∷ bs) = total f b.records + total_of_books f bs
+
+  -- the records of the caller k one after another: the indices are n, n + 1 and so on, no place is below p or below the one before
+  -- it, and each writer's is above
   abbrev pub IsBookFrom : ℕ → ℕ → ℕ → List (Entry D) → Type 0
   IsBookFrom k n p [] = Unit {0}
   IsBookFrom k n p (e ∷ es) = (e.caller ≡ k) × (e.index ≡ n) × (p ≤ e.place) × (IsTrue e.writer → p < e.place) × IsBookFrom k (n + 1) e.place es

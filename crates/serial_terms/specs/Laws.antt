@@ -4,8 +4,7 @@ use Rattle.serial_terms.specs.declared.call.Call.{Call}
 use Rattle.serial_terms.specs.declared.call.Reply.{Reply}
 use Rattle.serial_terms.specs.declared.call.Done.{Done}
 use Rattle.serial_terms.specs.declared.store.Layout.{Layout}
-use Rattle.serial_terms.specs.Counts.{times}
-use Rattle.serial_terms.specs.Entries.{Entry, Each, IsIn, IsInOrder, IsInPlaceOrder, StandsBefore, Precedes, OneWriterAPlace, WritersArePlaced, up_to, merged, AreOfTheirPlaces, by_caller, numbered, IsCountedFrom, Book, AreBooks, IsHistoryOf, IsBookFrom}
+use Rattle.serial_terms.specs.Entries.{Entry, Each, IsIn, IsInOrder, IsInPlaceOrder, StandsBefore, Precedes, OneWriterAPlace, WritersArePlaced, up_to, merged, AreOfTheirPlaces, by_caller, numbered, IsCountedFrom, Book, AreBooks, IsHistoryOf, IsBookFrom, total, total_of_books}
 use Rattle.serial_terms.specs.Histories.{Runs, IsLegalRun, IsLegalHistory, IsStateAt, RunsLawfully, IsRunning}
 use Rattle.serial_terms.specs.Kinds.{HasKind}
 use Rattle.serial_terms.specs.Parts.{part, IsReading}
@@ -167,3 +166,8 @@ HistoryKeepsBooks = (books : List (Book Done)) → AreBooks books → (history :
     → ((b : Book Done) → IsIn b books → by_caller b.caller history ≡ b.records)
     × ((k : ℕ) → ((b : Book Done) → IsIn b books → b.caller ≢ k) → by_caller k history ≡ [])
     × ((other : List (Entry Done)) → IsHistoryOf books other → other ≡ history)
+
+-- what is summed over the records of books is summed over their history
+abbrev pub BooksSumToHistory : Type 0
+BooksSumToHistory = (f : Entry Done → ℕ) (books : List (Book Done)) → AreBooks books → (history : List (Entry Done))
+    → IsHistoryOf books history → total f history ≡ total_of_books f books

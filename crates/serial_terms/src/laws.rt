@@ -2,7 +2,7 @@
 
 ghost use Rattle.serial_terms.specs.Worked.{WorkedHistories};
 ghost use Rattle.serial_terms.specs.Wrong.{WrongHistories, WrongSights, CallsAndLayouts};
-ghost use Rattle.serial_terms.specs.Laws.{RunsInParts, RunsToOneState, PartsCommute, ReadingLeavesState, RepliesHaveKinds, SizesStay, PoolsAreCounts, StatesAtPlaces, RenamingKeepsRuns, RenamingKeepsHistories, OwnNamesAreKeys, OrderIsUnique, SightOrderIsUnique, RecordsRunInParts, RecordsLeaveOneState, RecordsKeepSizes, CapacitiesStay, LastReadsSeeEnd, OneBookIsAHistory, OrderIsByPlace, MergedIsInOrder, MergedIsLegal, MergedIsSeen, HistoryKeepsBooks};
+ghost use Rattle.serial_terms.specs.Laws.{RunsInParts, RunsToOneState, PartsCommute, ReadingLeavesState, RepliesHaveKinds, SizesStay, PoolsAreCounts, StatesAtPlaces, RenamingKeepsRuns, RenamingKeepsHistories, OwnNamesAreKeys, OrderIsUnique, SightOrderIsUnique, RecordsRunInParts, RecordsLeaveOneState, RecordsKeepSizes, CapacitiesStay, LastReadsSeeEnd, OneBookIsAHistory, OrderIsByPlace, MergedIsInOrder, MergedIsLegal, MergedIsSeen, HistoryKeepsBooks, BooksSumToHistory};
 ghost use Rattle.std.specs.Prelude.{ℕ, Option};
 ghost use Rattle.serial_terms.specs.Renaming.{IsOneToOne};
 
@@ -83,6 +83,11 @@ pub fn merged_is_seen_law()
 /// only history of these books.
 pub fn history_keeps_books_law()
     ensures { HistoryKeepsBooks }
+{}
+
+/// What is summed over the records of books is summed over their history.
+pub fn books_sum_to_history_law()
+    ensures { BooksSumToHistory }
 {}
 
 /// Histories, and what was seen of them, may be renamed with their keys.

@@ -6,6 +6,9 @@ ghost use Rattle.serial_terms.specs.declared.call.Done.{Done};
 ghost use Rattle.serial_terms.specs.Serial.{State};
 ghost use Rattle.serial_terms.specs.Purposes.{MergedIsRunning, RunningIsLegal, RunningStaysLawful, AllowedRunsLawfully, LawfulRunsAreLegal};
 ghost use Rattle.serial_terms.specs.Laws.{NamesChangeKeys};
+ghost use Rattle.serial_terms.specs.Ranges.{BelowCapacity};
+
+use std::marker::Brand;
 
 /// A purpose as the laws of histories see it.
 pub trait Lawful {
@@ -19,6 +22,21 @@ pub trait Lawful {
 /// Which keys a map of a capacity may hold.
 pub trait KeyRule {
     ghost passes: { ℕ → ℕ → Type 0 };
+}
+
+/// A caller says which keys a map may hold where it asks for a law.
+impl KeyRule for Brand {
+    ghost passes = { BelowCapacity };
+}
+
+/// A purpose that finds each state lawful and allows each record.
+#[derive(Drop)]
+pub struct Free;
+
+impl Lawful for Free {
+    ghost lawful_state = { λ _ _. Unit {0} };
+
+    ghost allowed = { λ _ _. Unit {0} };
 }
 
 /// Records merged place by place are a running history where the states at the places are lawful and each
@@ -53,3 +71,21 @@ pub fn lawful_runs_are_legal_law<P: Lawful>(_purpose: &P)
 pub fn names_change_keys_law<K: KeyRule>()
     ensures { NamesChangeKeys K.passes }
 {}
+
+/// The laws at a purpose that is free, and at maps that hold the keys below their capacities.
+pub fn free_purpose_law()
+    ensures merged { MergedIsRunning (λ s. Unit {0}) }
+    ensures legal { RunningIsLegal (λ s. Unit {0}) }
+    ensures lawful { RunningStaysLawful (λ s. Unit {0}) }
+    ensures allowed { AllowedRunsLawfully (λ s. Unit {0}) (λ ds. Unit {0}) }
+    ensures runs { LawfulRunsAreLegal (λ s. Unit {0}) }
+    ensures keys { NamesChangeKeys BelowCapacity }
+{
+    let free = Free;
+    merged_is_running_law(&free);
+    running_is_legal_law(&free);
+    running_stays_lawful_law(&free);
+    allowed_runs_lawfully_law(&free);
+    lawful_runs_are_legal_law(&free);
+    names_change_keys_law::<Brand>();
+}
