@@ -1,17 +1,16 @@
 -- Legal runs of records.
-use Rattle.std.proofs.Common.{◌≡◌, ℕ, zero, suc, ◌<◌, ◌≤◌, true, false, List, [], ◌∷◌, ◌++◌, ◌⊎◌, inl, inr, ⊎_elim, sym, refl, ap, ◌∙◌, subst, arith}
+use Rattle.std.proofs.Common.{◌≡◌, ℕ, zero, suc, ◌<◌, ◌≤◌, true, false, List, [], ◌∷◌, ◌++◌, inl, inr, ⊎_elim, sym, refl, ap, ◌∙◌, subst, arith}
 use Rattle.std.specs.Prelude.{Option, Some, None, option_to_list}
 use Rattle.serial_terms.specs.declared.call.Done.{Done}
-use Rattle.serial_terms.specs.Entries.{Entry, Each, OrderedBy, StandsBefore, Precedes, IsIn, IsInOrder, IsInPlaceOrder, up_to, merged, IsWriterAt, AreOfTheirPlaces}
-use Rattle.serial_terms.specs.Histories.{Runs, IsLegalRun}
-use Rattle.serial_terms.specs.Kinds.{HasKind}
+use Rattle.serial_terms.specs.Entries.{Entry, Each, OrderedBy, StandsBefore, Precedes, IsIn, up_to, merged, IsWriterAt, AreOfTheirPlaces}
+use Rattle.serial_terms.specs.Histories.{IsLegalRun}
 use Rattle.serial_terms.specs.Laws.{MergedIsSeen, OrderIsUnique, MergedIsInOrder, MergedIsLegal, StatesAtPlaces, RecordsRunInParts, RecordsLeaveOneState, RecordsKeepSizes, LastReadsSeeEnd, OrderIsByPlace}
 use Rattle.serial_terms.specs.Runs.{RunsBy, LegalBy, WriterRuns, ExplainThemselves}
 use Rattle.serial_terms.specs.Serial.{State, IsReplied, step, IsWithinCapacity}
-use Rattle.serial_terms.proofs.Ordering.{unique, up_to_begins, precedes_low, stands_low, stands, merged_order, merged_apart, up_to_merged}
-use Rattle.serial_terms.proofs.Running.{run_once, kinds, sizes, Same}
+use Rattle.serial_terms.proofs.Ordering.{unique, up_to_begins, precedes_low, stands, merged_order, merged_apart, up_to_merged}
+use Rattle.serial_terms.proofs.Running.{run_once, kinds, sizes}
 use Rattle.std.proofs.lemmas.Bool.{cases_Bool}
-use Rattle.serial_terms.proofs.Basics.{true_or_false, in_each, each_map}
+use Rattle.serial_terms.proofs.Basics.{true_or_false, each_map}
 
 module _ {S D : Type 0} (IsReplied : S → D → Type 0) (step : S → D → S) (Good : S → Type 0) where
   abbrev L : S → List (Entry D) → S → Type 0

@@ -1,11 +1,11 @@
 -- The records of one caller as a history.
-use Rattle.std.proofs.Common.{◌≡◌, ◌≢◌, ℕ, ◌+◌, ◌<◌, ◌≤◌, true, false, eqb, List, [], ◌∷◌, ◌⊎◌, inl, inr, ⊎_elim, sym, refl, ap, ◌∙◌, subst, arith, eq-eqb, ne_eqb}
+use Rattle.std.proofs.Common.{◌≡◌, ◌≢◌, ℕ, ◌+◌, ◌<◌, ◌≤◌, true, false, eqb, List, [], ◌∷◌, inl, inr, ⊎_elim, sym, refl, ap, ◌∙◌, subst, arith, eq-eqb, ne_eqb}
 use mathlib.Core.Logic.{dite}
 use native.Mathlib.Decide.{ℕ_discrete}
 use Rattle.serial_terms.specs.Entries.{Entry, Each, Precedes, IsInOrder, by_caller, IsCountedFrom, OneWriterAPlace, IsBookFrom}
 use Rattle.serial_terms.specs.Laws.{OneBookIsAHistory}
 use Rattle.std.proofs.lemmas.Bool.{cases_Bool, cond-true, cond-false}
-use Rattle.serial_terms.proofs.Basics.{each_map, true_or_false}
+use Rattle.serial_terms.proofs.Basics.{each_map}
 
 module _ {D : Type 0} (k : ℕ) where
   -- what a record of the book is, with the index n and the place p before it

@@ -1,20 +1,19 @@
 -- Histories through the lawful states of a purpose.
-use Rattle.std.proofs.Common.{◌≡◌, ◌≢◌, ℕ, zero, suc, ◌+◌, ◌<◌, ◌≤◌, true, false, eqb, List, [], ◌∷◌, ◌++◌, ◌⊎◌, inl, inr, ⊎_elim, sym, refl, ap, ◌∙◌, subst, arith, eq-eqb, ne_eqb}
-use Rattle.std.specs.Prelude.{Option, option_to_list}
+use Rattle.std.proofs.Common.{◌≡◌, ◌≢◌, ℕ, ◌+◌, ◌<◌, ◌≤◌, true, eqb, List, [], ◌∷◌, inl, inr, ⊎_elim, sym, ap, ◌∙◌, subst, arith, eq-eqb, ne_eqb}
 use mathlib.Core.Logic.{dite}
 use native.Mathlib.Decide.{ℕ_discrete}
 use Rattle.serial_terms.specs.declared.call.Done.{Done}
 use Rattle.serial_terms.specs.Counts.{with_at}
-use Rattle.serial_terms.specs.Entries.{Entry, Each, OrderedBy, Precedes, StandsBefore, OneWriterAPlace, by_caller, IsCountedFrom, numbered, up_to, merged}
-use Rattle.serial_terms.specs.Histories.{Runs, IsLegalRun, RunsLawfully}
+use Rattle.serial_terms.specs.Entries.{Entry, Each, OrderedBy, Precedes, StandsBefore, OneWriterAPlace, by_caller, IsCountedFrom, numbered, up_to}
+use Rattle.serial_terms.specs.Histories.{IsLegalRun, RunsLawfully}
 use Rattle.serial_terms.specs.Purposes.{MergedIsRunning, RunningIsLegal, RunningStaysLawful, AllowedRunsLawfully, LawfulRunsAreLegal}
-use Rattle.serial_terms.specs.Runs.{RunsBy, LegalBy}
+use Rattle.serial_terms.specs.Runs.{LegalBy}
 use Rattle.serial_terms.specs.Serial.{State, IsReplied, step, IsWithinCapacity}
 use Rattle.serial_terms.proofs.Legal.{below, behind, merged_legal, legal_at}
 use Rattle.serial_terms.proofs.Ordering.{stands_low, merged_order, merged_apart, merged_placed, up_to_merged}
 use Rattle.std.proofs.lemmas.Bool.{cond-true, cond-false}
-use Rattle.serial_terms.specs.Facts.{with_at_same, with_at_other, each_append}
-use Rattle.serial_terms.proofs.Basics.{each_map, true_or_false}
+use Rattle.serial_terms.specs.Facts.{with_at_same, with_at_other}
+use Rattle.serial_terms.proofs.Basics.{each_map}
 
 -- ---- legal runs, whatever a good state is
 

@@ -1,9 +1,7 @@
 -- Histories and sights with keys under other names.
-use Rattle.std.proofs.Common.{◌≡◌, ◌≢◌, ℕ, ◌+◌, ◌<◌, Bool, true, false, eqb, leb, List, [], ◌∷◌, ⊎_elim, sym, refl, ap, ◌∙◌, subst}
+use Rattle.std.proofs.Common.{◌≡◌, ℕ, ◌+◌, ◌<◌, eqb, leb, List, [], ◌∷◌, ⊎_elim, sym, refl, ap, ◌∙◌, subst}
 use Rattle.std.specs.Prelude.{Option, Some, None}
 use mathlib.Core.Path.{fun_ext}
-use Rattle.serial_terms.specs.declared.call.Call.{Call}
-use Rattle.serial_terms.specs.declared.call.Call.TheVariants.{MapGet, MapPut, MapRemove, MapPutIfAbsent}
 use Rattle.serial_terms.specs.declared.call.Done.{Done}
 use Rattle.serial_terms.specs.declared.sight.SightEnd.{SightEnd}
 use Rattle.serial_terms.specs.declared.sight.SightEnd.TheVariants.{Aborted, Refused, Full, Child}
@@ -11,7 +9,8 @@ use Rattle.serial_terms.specs.declared.store.Layout.{Layout}
 use Rattle.serial_terms.specs.Entries.{Entry, Each, OrderedBy, by_caller, up_to, IsCountedFrom}
 use Rattle.serial_terms.specs.Histories.{IsLegalRun, IsLegalHistory}
 use Rattle.serial_terms.specs.Laws.{RenamingKeepsHistories, NamesChangeKeys}
-use Rattle.serial_terms.specs.Renaming.{OfKey, IsNameOfKey, IsOneToOne, value_at, by_keys, NamedDone, AreNamesOfKeys, by_key, by_name, entry_with, entries_with, seen_with, AreNamesIn, MayName, SameButKeys}
+use Rattle.serial_terms.specs.Purposes.{RenamedStayAllowed}
+use Rattle.serial_terms.specs.Renaming.{IsOneToOne, value_at, by_keys, NamedDone, AreNamesOfKeys, by_key, by_name, entry_with, entries_with, seen_with, AreNamesIn, MayName, SameButKeys}
 use Rattle.serial_terms.specs.Serial.{State, IsWithinCapacity}
 use Rattle.serial_terms.specs.Sights.{Seen, EndsAs, IsConsistent}
 use Rattle.serial_terms.specs.Stores.{opening_of}
@@ -124,3 +123,7 @@ module _ (passes : ℕ → ℕ → Type 0) where
 
   pub names_change : NamesChangeKeys passes
   names_change = record { renamed = renamed_calls; own = own_calls }
+
+  pub stay_allowed : (allowed : List Done → Type 0) → RenamedStayAllowed allowed passes
+  stay_allowed allowed law name may [] a b = tt
+  stay_allowed allowed law name may (e ∷ es) a b = (law (by_key e.dones) (by_name e.dones) (renamed_calls name may e.dones a.0) b.0, stay_allowed allowed law name may es a.1 b.1)

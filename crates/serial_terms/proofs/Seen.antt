@@ -1,8 +1,8 @@
 -- The order of sights.
-use Rattle.std.proofs.Common.{◌≡◌, ◌≢◌, ℕ, ◌<◌, ◌≤◌, eqb, List, [], ◌∷◌, ◌⊎◌, inl, inr, ⊎_elim, sym, refl, ap, ◌∙◌, subst, arith, eq-eqb, ne_eqb}
+use Rattle.std.proofs.Common.{◌≡◌, ◌≢◌, ℕ, ◌≤◌, eqb, List, [], ◌∷◌, inl, inr, ⊎_elim, sym, refl, ap, ◌∙◌, subst, arith, eq-eqb, ne_eqb}
 use mathlib.Core.Logic.{dite}
 use native.Mathlib.Decide.{ℕ_discrete}
-use Rattle.serial_terms.specs.Entries.{Each, OrderedBy, IsIn}
+use Rattle.serial_terms.specs.Entries.{OrderedBy, IsIn}
 use Rattle.serial_terms.specs.Laws.{SightOrderIsUnique}
 use Rattle.serial_terms.specs.Sights.{Seen, IsSeenBefore, seen_by}
 use Rattle.std.proofs.lemmas.Bool.{cond-true, cond-false}

@@ -1,8 +1,7 @@
 -- What the definitions refuse.
-use Rattle.std.proofs.Common.{◌≡◌, ℕ, ◌<◌, ◌≤◌, true, false, List, [], ◌∷◌, ◌++◌, ⊎_elim, refl, ap, ◌∙◌, sym, arith, rules}
+use Rattle.std.proofs.Common.{◌≡◌, ℕ, ◌<◌, true, false, [], ◌∷◌, ◌++◌, ⊎_elim, refl, ap, ◌∙◌, sym, arith, rules}
 use Rattle.std.specs.Prelude.{Some, None, length}
-use Rattle.serial_terms.specs.declared.call.Reply.{Reply}
-use Rattle.serial_terms.specs.declared.call.Reply.TheVariants.{Nothing, Absent, Value, Flag}
+use Rattle.serial_terms.specs.declared.call.Reply.TheVariants.{Absent, Value, Flag}
 use Rattle.serial_terms.specs.RunLayout.{layout_by}
 use Rattle.serial_terms.specs.Serial.{State, found}
 use Rattle.serial_terms.specs.Stores.{opening_of}

@@ -1,5 +1,5 @@
 -- Histories of a store.
-use Rattle.std.specs.Prelude.{◌≡◌, ℕ, List, [], ◌∷◌}
+use Rattle.std.specs.Prelude.{ℕ, List, [], ◌∷◌}
 use Rattle.serial_terms.specs.declared.call.Done.{Done}
 use Rattle.serial_terms.specs.declared.committed.Record.{Record}
 use Rattle.serial_terms.specs.Entries.{Entry, IsInOrder, IsInPlaceOrder, by_caller, up_to, IsCountedFrom, OneWriterAPlace, WritersArePlaced}

@@ -4,8 +4,8 @@ use Rattle.serial_terms.specs.declared.call.Call.{Call}
 use Rattle.serial_terms.specs.declared.call.Reply.{Reply}
 use Rattle.serial_terms.specs.declared.call.Done.{Done}
 use Rattle.serial_terms.specs.declared.store.Layout.{Layout}
-use Rattle.serial_terms.specs.Entries.{Entry, Each, IsIn, IsInOrder, IsInPlaceOrder, StandsBefore, Precedes, OneWriterAPlace, WritersArePlaced, up_to, merged, AreOfTheirPlaces, by_caller, numbered, IsCountedFrom, Book, AreBooks, IsHistoryOf, IsBookFrom, total, total_of_books}
-use Rattle.serial_terms.specs.Histories.{Runs, IsLegalRun, IsLegalHistory, IsStateAt, RunsLawfully, IsRunning}
+use Rattle.serial_terms.specs.Entries.{Entry, Each, IsIn, IsInOrder, IsInPlaceOrder, StandsBefore, Precedes, OneWriterAPlace, WritersArePlaced, up_to, merged, AreOfTheirPlaces, by_caller, IsCountedFrom, Book, AreBooks, IsHistoryOf, IsBookFrom, total, total_of_books}
+use Rattle.serial_terms.specs.Histories.{Runs, IsLegalRun, IsLegalHistory, IsStateAt}
 use Rattle.serial_terms.specs.Kinds.{HasKind}
 use Rattle.serial_terms.specs.Parts.{part, IsReading}
 use Rattle.serial_terms.specs.Renaming.{IsOneToOne, NamedDone, AreNamesOfKeys, by_key, by_name, by_keys, entries_with, seen_with, AreNamesIn, MayName, SameButKeys}

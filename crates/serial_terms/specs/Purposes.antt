@@ -1,8 +1,9 @@
 -- The laws of histories for what a purpose finds lawful of states, and allows of records.
-use Rattle.std.specs.Prelude.{◌≡◌, ℕ, ◌≤◌, List, [], ◌∷◌, ◌++◌, Option}
+use Rattle.std.specs.Prelude.{◌≡◌, ℕ, ◌≤◌, List, Option, Some}
 use Rattle.serial_terms.specs.declared.call.Done.{Done}
 use Rattle.serial_terms.specs.Entries.{Entry, Each, StandsBefore, up_to, merged, AreOfTheirPlaces, numbered}
 use Rattle.serial_terms.specs.Histories.{Runs, IsLegalRun, IsLegalHistory, RunsLawfully, IsRunning}
+use Rattle.serial_terms.specs.Renaming.{NamedDone, by_key, by_name, entries_with, AreNamesIn, MayName, SameButKeys}
 use Rattle.serial_terms.specs.Runs.{ExplainThemselves}
 use Rattle.serial_terms.specs.Serial.{State, IsReplied, step, IsWithinCapacity}
 
@@ -36,3 +37,10 @@ module _ (lawful : State → Type 0) where
   abbrev pub LawfulRunsAreLegal : Type 0
   LawfulRunsAreLegal = (start end : State) (history : List (Entry Done)) → RunsLawfully lawful start history end
       → IsLegalRun start history end
+
+-- allowed records stay allowed with the names of their keys, where with each record those are allowed that are the same but for keys
+abbrev pub RenamedStayAllowed : (List Done → Type 0) → (ℕ → ℕ → Type 0) → Type 0
+RenamedStayAllowed allowed passes = ((ds es : List Done) → SameButKeys passes ds es → allowed ds → allowed es)
+    → (name : ℕ → ℕ → Option ℕ) → ((m k n : ℕ) → name m k ≡ Some n → MayName passes n k)
+    → (es : List (Entry NamedDone)) → AreNamesIn name es
+    → Each (λ e. allowed e.dones) (entries_with by_key es) → Each (λ e. allowed e.dones) (entries_with by_name es)

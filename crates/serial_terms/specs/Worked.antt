@@ -1,6 +1,6 @@
 -- Worked histories of small stores: their records, their contents at the end, and what was seen by attempts that
 -- were not committed.
-use Rattle.std.specs.Prelude.{ℕ, true, false, List, [], ◌∷◌, length, Option}
+use Rattle.std.specs.Prelude.{ℕ, true, false, List, [], ◌∷◌, length}
 use Rattle.serial_terms.specs.declared.call.Call.TheVariants.{MapGet, MapPut, MapRemove, MapPutIfAbsent, Enqueue, Dequeue, QueueLen, Take, Give, Append, AppendPlaced, LogRead, LogLen, CellGet, CellPut}
 use Rattle.serial_terms.specs.declared.call.Reply.TheVariants.{Nothing, Absent, Value, Flag}
 use Rattle.serial_terms.specs.declared.call.Done.{Done}

@@ -4,7 +4,7 @@
 ghost use Rattle.std.specs.Prelude.{ℕ, List};
 ghost use Rattle.serial_terms.specs.declared.call.Done.{Done};
 ghost use Rattle.serial_terms.specs.Serial.{State};
-ghost use Rattle.serial_terms.specs.Purposes.{MergedIsRunning, RunningIsLegal, RunningStaysLawful, AllowedRunsLawfully, LawfulRunsAreLegal};
+ghost use Rattle.serial_terms.specs.Purposes.{MergedIsRunning, RunningIsLegal, RunningStaysLawful, AllowedRunsLawfully, LawfulRunsAreLegal, RenamedStayAllowed};
 ghost use Rattle.serial_terms.specs.Laws.{NamesChangeKeys};
 ghost use Rattle.serial_terms.specs.Ranges.{BelowCapacity};
 
@@ -72,6 +72,12 @@ pub fn names_change_keys_law<K: KeyRule>()
     ensures { NamesChangeKeys K.passes }
 {}
 
+/// Allowed records stay allowed with the names of their keys, where with each record those are allowed that
+/// are the same but for keys.
+pub fn renamed_stay_allowed_law<P: Lawful, K: KeyRule>(_purpose: &P)
+    ensures { RenamedStayAllowed (P.allowed _purpose.now) K.passes }
+{}
+
 /// The laws at a purpose that is free, and at maps that hold the keys below their capacities.
 pub fn free_purpose_law()
     ensures merged { MergedIsRunning (λ s. Unit {0}) }
@@ -80,6 +86,7 @@ pub fn free_purpose_law()
     ensures allowed { AllowedRunsLawfully (λ s. Unit {0}) (λ ds. Unit {0}) }
     ensures runs { LawfulRunsAreLegal (λ s. Unit {0}) }
     ensures keys { NamesChangeKeys BelowCapacity }
+    ensures renamed { RenamedStayAllowed (λ ds. Unit {0}) BelowCapacity }
 {
     let free = Free;
     merged_is_running_law(&free);
@@ -88,4 +95,5 @@ pub fn free_purpose_law()
     allowed_runs_lawfully_law(&free);
     lawful_runs_are_legal_law(&free);
     names_change_keys_law::<Brand>();
+    renamed_stay_allowed_law::<Free, Brand>(&free);
 }
