@@ -10,13 +10,13 @@ use Rattle.serial_terms.specs.declared.call.Reply.TheVariants.{Nothing, Absent, 
 use Rattle.serial_terms.specs.declared.call.Done.{Done}
 use Rattle.serial_terms.specs.Entries.{Entry, Each}
 use Rattle.serial_terms.specs.Histories.{Runs, IsLegalRun}
-use Rattle.serial_terms.specs.Serial.{State, found, Pool, Sequence, after, rest, IsReplied, step, put_cell, outside, in_child}
+use Rattle.serial_terms.specs.Serial.{State, found, Pool, Sequence, after, rest, step, put_cell, outside, in_child}
 use Rattle.serial_terms.specs.Stores.{opening_of}
 use Rattle.serial_terms.specs.Laws.{RunsInParts}
 use Rattle.run_stages.specs.Work.{Work, IsSoundWork, given_count, head_of, task_item, group_item}
 use Rattle.run_stages.specs.Allowed.{IsAllowed, take_whole, take_fragment, match_whole, match_group, nothing_queued, nothing_pooled, fill, linked, ready, walk, Appends, gives, next_batch, new_bytes, new_total, new_word}
 use Rattle.run_stages.specs.Stages.{IsLawful}
-use Rattle.run_stages.specs.Opening.{opening, layout_of, IsRunOfWork}
+use Rattle.run_stages.specs.Opening.{opening, IsRunOfWork}
 use Rattle.run_stages.specs.Ends.{took_task, took_item, tasks_taken, items_taken, all_tasks_taken, all_items_taken, is_fill, fills_made}
 use Rattle.run_stages.specs.Laws.{AllowedKeepsLawful, RunsEndLawful, RunsAreBounded, FillsAreCounted}
 use Rattle.run_stages.proofs.Counting.{numbers_length, push_length}

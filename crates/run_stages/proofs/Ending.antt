@@ -1,19 +1,17 @@
 -- What is told of fills, of the end of a run, and of a full log.
-use Rattle.std.proofs.Common.{◌≡◌, ℕ, ◌+◌, ◌-◌, ◌*◌, ◌<◌, ◌≤◌, true, false, List, [], ◌∷◌, ◌++◌, length, length-append, sym, refl, ap, ◌∙◌, subst, arith}
+use Rattle.std.proofs.Common.{◌≡◌, ℕ, ◌+◌, ◌-◌, ◌*◌, ◌<◌, ◌≤◌, List, [], ◌∷◌, ◌++◌, length, length-append, sym, refl, ap, subst, arith}
 use Rattle.std.proofs.lemmas.List.Sorted.{length_permutation}
-use Rattle.serial_terms.specs.declared.call.Call.TheVariants.{QueueLen, CellGet, CellPut}
-use Rattle.serial_terms.specs.declared.call.Reply.{Reply}
-use Rattle.serial_terms.specs.declared.call.Reply.TheVariants.{Nothing, Absent, Value}
+use Rattle.serial_terms.specs.declared.call.Reply.TheVariants.{Absent, Value}
 use Rattle.serial_terms.specs.declared.call.Done.{Done}
-use Rattle.serial_terms.specs.Entries.{Entry, Each}
+use Rattle.serial_terms.specs.Entries.{Each}
 use Rattle.serial_terms.specs.Histories.{Runs}
 use Rattle.serial_terms.specs.Laws.{LastReadsSeeEnd, RecordsKeepSizes, CapacitiesStay}
 use Rattle.serial_terms.specs.RunLayout.{layout_by}
-use Rattle.serial_terms.specs.Serial.{State, first, put_cell, outside}
+use Rattle.serial_terms.specs.Serial.{State, first, put_cell}
 use Rattle.serial_terms.specs.Stores.{opening_of}
 use Rattle.serial_terms.specs.Worked.{no_item, no_task}
 use Rattle.run_stages.specs.Work.{Work, given_count}
-use Rattle.run_stages.specs.Allowed.{gives, next_batch}
+use Rattle.run_stages.specs.Allowed.{next_batch}
 use Rattle.run_stages.specs.Opening.{opening, layout_of}
 use Rattle.run_stages.specs.Laws.{AllowedKeepsLawful, RunsEndLawful, FinishedFindsAll}
 use Rattle.run_stages.specs.Stages.{IsLawful}

@@ -4,7 +4,7 @@ use Rattle.serial_terms.specs.Counts.{numbers_from, times}
 use Rattle.serial_terms.specs.Stores.{opening_of}
 use Rattle.run_stages.specs.Work.{Work, given_count}
 use Rattle.run_stages.specs.Stages.{IsAdded, IsLawful}
-use Rattle.run_stages.specs.Opening.{layout_of, opening}
+use Rattle.run_stages.specs.Opening.{opening}
 use Rattle.run_stages.specs.Laws.{OpeningIsLawful}
 use Rattle.run_stages.proofs.Counting.{below_or, total_times, numbers_length, times_numbers, times_no_numbers}
 use Rattle.serial_terms.specs.RunLayout.{layout_by}

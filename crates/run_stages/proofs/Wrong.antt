@@ -1,15 +1,15 @@
 -- Records that no worker commits.
-use Rattle.std.proofs.Common.{◌≡◌, ℕ, zero, suc, ◌+◌, ◌-◌, ◌*◌, ◌<◌, Bool, true, false, List, [], ◌∷◌, ◌++◌, ◌⊎◌, length, inl, inr, ⊎_elim, sym, refl, ap, ◌∙◌, subst, arith}
+use Rattle.std.proofs.Common.{◌≡◌, ℕ, zero, suc, ◌+◌, ◌-◌, ◌<◌, Bool, true, false, List, [], ◌∷◌, ◌++◌, ◌⊎◌, length, inl, inr, ⊎_elim, sym, refl, ap, ◌∙◌, subst, arith}
 use Rattle.std.specs.Prelude.{Option, Some, None}
 use Rattle.std.proofs.lemmas.List.{length-replicate}
 use Rattle.serial_terms.specs.declared.call.Call.{Call}
-use Rattle.serial_terms.specs.declared.call.Call.TheVariants.{MapGet, MapPut, MapRemove, Enqueue, Dequeue, QueueLen, Take, Give, AppendPlaced, CellGet, CellPut}
+use Rattle.serial_terms.specs.declared.call.Call.TheVariants.{MapGet, MapPut, MapRemove, Enqueue, Dequeue, QueueLen, Take, Give, AppendPlaced}
 use Rattle.serial_terms.specs.declared.call.Reply.{Reply}
-use Rattle.serial_terms.specs.declared.call.Reply.TheVariants.{Nothing, Absent, Value, Flag}
+use Rattle.serial_terms.specs.declared.call.Reply.TheVariants.{Nothing, Absent, Value}
 use Rattle.serial_terms.specs.declared.call.Done.{Done}
 use Rattle.serial_terms.specs.Counts.{numbers_from}
 use Rattle.serial_terms.specs.RunLayout.{layout_by}
-use Rattle.serial_terms.specs.Serial.{outside, in_child, rest, found}
+use Rattle.serial_terms.specs.Serial.{outside, in_child}
 use Rattle.run_stages.specs.Work.{Work, IsWhole, IsMember, given_count, task_item, group_item, head_of}
 use Rattle.run_stages.specs.Allowed.{IsAllowed, take_whole, take_fragment, match_whole, match_group, nothing_queued, nothing_pooled, fill, Appends, added, walk, gives, next_batch}
 use Rattle.run_stages.specs.Batches.{frames}

@@ -1,4 +1,4 @@
-use Rattle.std.proofs.Common.{◌≡◌, ℕ, List, length, refl, ap, arith}
+use Rattle.std.proofs.Common.{length, refl, ap, arith}
 use Rattle.std.specs.Fmt.{digits}
 use Rattle.journal_terms.proofs.Records.{other_text, not_read}
 use Rattle.journal_terms.proofs.wrong_journals_law.Goals as goal

@@ -1,4 +1,4 @@
-use Rattle.std.proofs.Common.{◌≡◌, ℕ, ◌∙◌, ◌<◌, ◌≤◌, List, ap, length, subst}
+use Rattle.std.proofs.Common.{◌≡◌, ℕ, ◌∙◌, ◌<◌, List, ap, length, subst}
 use Rattle.capture_terms.specs.Capture.{contents_of}
 use Rattle.capture_terms.specs.declared.plan.Task.{Task}
 use Rattle.inspection_terms.specs.Findings.{all_findings, findings_of_capture}
