@@ -1,11 +1,11 @@
 -- Histories through the lawful states of a purpose.
-use Rattle.std.proofs.Common.{◌≡◌, ◌≢◌, ℕ, ◌+◌, ◌<◌, ◌≤◌, true, eqb, List, [], ◌∷◌, inl, inr, ⊎_elim, sym, ap, ◌∙◌, subst, arith, eq-eqb, ne_eqb}
+use Rattle.std.proofs.Common.{refl, ◌≡◌, ◌≢◌, ℕ, ◌+◌, ◌<◌, ◌≤◌, true, eqb, List, [], ◌∷◌, inl, inr, ⊎_elim, sym, ap, ◌∙◌, subst, arith, eq-eqb, ne_eqb}
 use mathlib.Core.Logic.{dite}
 use native.Mathlib.Decide.{ℕ_discrete}
 use Rattle.serial_terms.specs.declared.call.Done.{Done}
 use Rattle.serial_terms.specs.Counts.{with_at}
 use Rattle.serial_terms.specs.Entries.{Entry, Each, OrderedBy, Precedes, StandsBefore, OneWriterAPlace, by_caller, IsCountedFrom, numbered, up_to}
-use Rattle.serial_terms.specs.Histories.{IsLegalRun, RunsLawfully}
+use Rattle.serial_terms.specs.Histories.{IsLegalRun, RunsLawfully, IsLegalHistory, IsRunning}
 use Rattle.serial_terms.specs.Purposes.{MergedIsRunning, RunningIsLegal, RunningStaysLawful, AllowedRunsLawfully, LawfulRunsAreLegal}
 use Rattle.serial_terms.specs.Runs.{LegalBy}
 use Rattle.serial_terms.specs.Serial.{State, IsReplied, step, IsWithinCapacity}
@@ -93,6 +93,18 @@ module _ {D : Type 0} where
         numbered_order m es o.1 a.1,
       )
 
+  -- records that are counted already are numbered so
+  counted_same : (n : ℕ → ℕ) (es : List (Entry D)) → ((k : ℕ) → IsCountedFrom (n k) (by_caller k es)) → numbered n es ≡ es
+  counted_same n [] c = refl
+  counted_same n (e ∷ es) c =
+      let m : ℕ → ℕ = with_at n e.caller (n e.caller + 1) in
+      let mine : (k : ℕ) → e.caller ≡ k → IsCountedFrom (n k) (e ∷ by_caller k es) = λ k q. subst (IsCountedFrom (n k)) (cond-true (eqb e.caller k) (e ∷ by_caller k es) (by_caller k es) (eq-eqb e.caller k q)) (c k) in
+      let index : n e.caller ≡ e.index = sym (mine e.caller refl).0 in
+      let behind : numbered m es ≡ es = counted_same m es (λ k. dite (ℕ_discrete e.caller k)
+      (λ q. subst (λ (z : ℕ). IsCountedFrom z (by_caller k es)) (sym (more_is n e.caller k q)) (mine k q).1)
+      (λ q. subst (λ (z : ℕ). IsCountedFrom z (by_caller k es)) (sym (with_at_other n e.caller (n e.caller + 1) k (λ z. q (sym z)))) (subst (IsCountedFrom (n k)) (cond-false (eqb e.caller k) (e ∷ by_caller k es) (by_caller k es) (ne_eqb e.caller k q)) (c k)))) in
+      λ i. record e { index = index i } ∷ behind i
+
 -- ---- for a purpose
 
 module _ (lawful : State → Type 0) where
@@ -110,14 +122,17 @@ module _ (lawful : State → Type 0) where
     λ t l. subst (λ (z : List (Entry Done)). RunsLawfully lawful (state 0) z (state t)) (sym (up_to_merged StandsBefore below behind writer readers own t p l)) (merged_legal IsReplied step Good StandsBefore state writer readers own x t),
   )
 
-  pub running_legal : RunningIsLegal lawful
-  running_legal start end h r = record {
+  as_numbered : (start end : State) (h : List (Entry Done)) → IsRunning lawful start h end → IsLegalHistory start (numbered (λ k. 0) h) end
+  as_numbered start end h r = record {
     order = numbered_order (λ k. 0) h r.order r.apart;
     run = numbered_legal IsReplied step Good IsWithinCapacity (λ s g. g.0) (λ k. 0) h start end r.run;
     counted = λ k. numbered_counted k (λ j. 0) h;
     apart = numbered_apart (λ k. 0) h r.apart;
     placed = numbered_each (λ e. e.writer ≡ true → 0 < e.place) (λ e. e.writer ≡ true → 0 < e.place) (λ e i p. p) (λ k. 0) h r.placed;
   }
+
+  pub running_legal : RunningIsLegal lawful
+  running_legal start end h r = (as_numbered start end h r, λ c. subst (λ (z : List (Entry Done)). IsLegalHistory start z end) (counted_same (λ k. 0) h c) (as_numbered start end h r))
 
   pub stays_lawful : RunningStaysLawful lawful
   stays_lawful start end h r l = (

@@ -1,7 +1,7 @@
 -- The laws of histories for what a purpose finds lawful of states, and allows of records.
 use Rattle.std.specs.Prelude.{◌≡◌, ℕ, ◌≤◌, List, Option, Some}
 use Rattle.serial_terms.specs.declared.call.Done.{Done}
-use Rattle.serial_terms.specs.Entries.{Entry, Each, StandsBefore, up_to, merged, AreOfTheirPlaces, numbered}
+use Rattle.serial_terms.specs.Entries.{Entry, Each, StandsBefore, up_to, merged, AreOfTheirPlaces, numbered, by_caller, IsCountedFrom}
 use Rattle.serial_terms.specs.Histories.{Runs, IsLegalRun, IsLegalHistory, RunsLawfully, IsRunning}
 use Rattle.serial_terms.specs.Renaming.{NamedDone, by_key, by_name, entries_with, AreNamesIn, MayName, SameButKeys}
 use Rattle.serial_terms.specs.Runs.{ExplainThemselves}
@@ -17,10 +17,12 @@ module _ (lawful : State → Type 0) where
       → (p : ℕ) → IsRunning lawful (state 0) (merged writer readers p) (state p)
       × ((t : ℕ) → t ≤ p → RunsLawfully lawful (state 0) (up_to t (merged writer readers p)) (state t))
 
-  -- a running history is a legal one once each record has the number of its caller's records before it as its index
+  -- a running history is a legal one once each record has the number of its caller's records before it as its index, and as it
+  -- stands where it has these indices already
   abbrev pub RunningIsLegal : Type 0
   RunningIsLegal = (start end : State) (history : List (Entry Done)) → IsRunning lawful start history end
       → IsLegalHistory start (numbered (λ k. 0) history) end
+      × (((k : ℕ) → IsCountedFrom 0 (by_caller k history)) → IsLegalHistory start history end)
 
   -- from a lawful state it passes through lawful ones
   abbrev pub RunningStaysLawful : Type 0

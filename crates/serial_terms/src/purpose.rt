@@ -45,7 +45,7 @@ pub fn merged_is_running_law<P: Lawful>(_purpose: &P)
     ensures { MergedIsRunning (P.lawful_state _purpose.now) }
 {}
 
-/// A running history is a legal one, once its records are numbered.
+/// A running history is a legal one, once its records are numbered, or where they have these numbers already.
 pub fn running_is_legal_law<P: Lawful>(_purpose: &P)
     ensures { RunningIsLegal (P.lawful_state _purpose.now) }
 {}
