@@ -1,6 +1,8 @@
-pub mod Words
-pub mod Lines
-pub mod Places
-pub mod Asked
-pub mod Found
-pub mod Named
+mod Asked
+mod Found
+mod Lines
+mod Named
+mod Ends
+mod Places
+mod LinesRead
+mod Others

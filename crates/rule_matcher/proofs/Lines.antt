@@ -1,13 +1,15 @@
 -- The lines of a text and the rules that they are.
-use Rattle.std.proofs.Common.{◌≡◌, ℕ, zero, suc, ◌+◌, ◌<◌, ◌≤◌, true, false, eqb, List, [], ◌∷◌, ◌++◌, length, get_or, take, drop, Option, Some, None, refl, sym, ◌∙◌, ap, subst, arith, append_assoc, length-append}
-use Rattle.std.specs.Prelude.{map, AllPairs}
-use Rattle.std.proofs.lemmas.List.{append-nil, map-append, get_or_append_left}
+use Rattle.std.proofs.Common.{◌≡◌, ℕ, zero, suc, ◌+◌, ◌<◌, ◌≤◌, true, false, eqb, List, [], ◌∷◌, ◌++◌, length, get_or, take, drop, Option, Some, None, refl, sym, ◌∙◌, ap, subst, arith, append_assoc, length-append, inl, inr}
+use Rattle.std.specs.Prelude.{AllPairs}
+use Rattle.std.proofs.lemmas.List.{append-nil}
 use Rattle.std.proofs.Math.Seq.{get_or-append_seam}
 use Rattle.std.proofs.lemmas.Bool.{false_from_ne_true}
 use Rattle.std.proofs.lemmas.List.Quantifiers.{all_pairs_push}
 use Rattle.rule_terms.specs.Rule.{Rule}
-use Rattle.rule_matcher.specs.Names.{IsTaken}
-use Rattle.rule_terms.specs.RuleText.{lines_of, onto_first, read_line, AreNamedApart, IsRuleText, name_at}
+use Rattle.rule_terms.specs.RuleText.{lines_of, onto_first, AreLinesOf, AreNamedApart, IsTaken, AreRules, IsRuleText, name_at}
+use Rattle.rule_matcher.specs.Ends.{IsCauseIn, IsReadBehind, IsCauseAt}
+use Rattle.rule_matcher.specs.declared.rule_list.RulesEnd.{RulesEnd}
+use Rattle.rule_matcher.specs.declared.rule_list.RulesEnd.TheVariants.{Line, TooMany, Memory}
 
 pub lines_cut : (text : List ℕ) (i : ℕ) → i < length text → ((k : ℕ) → k < i → eqb (get_or text k 0) 10 ≡ true → ⊥) → eqb (get_or text i 0) 10 ≡ true → lines_of text ≡ take i text ∷ lines_of (drop (suc i) text)
 unfolding lines_of
@@ -28,24 +30,19 @@ lines_last (b ∷ c ∷ text) some nowhere =
     let off : eqb b 10 ≡ false = false_from_ne_true (eqb b 10) (nowhere 0 (omega arith)) in
     rw off (ap (onto_first b) (lines_last (c ∷ text) (omega arith) (λ k lt. nowhere (suc k) (omega arith))))
 
-abbrev pub all_some : List Rule → List (Option Rule)
-all_some rules = map (λ (rule : Rule). Some rule) rules
-
--- the lines before the rest are these rules
-pub record Reads (text rest : List ℕ) (rules : List Rule) : Type 0 where
+-- the lines before the rest are these rules, and as many as the number
+pub record Reads (text rest : List ℕ) (number : ℕ) (rules : List Rule) : Type 0 where
   pub lines : List (List ℕ)
   pub split : lines_of text ≡ lines ++ lines_of rest
-  pub each : map read_line lines ≡ all_some rules
+  pub are : AreRules lines rules
+  pub count : number ≡ length lines
 
-pub reads_none : (text : List ℕ) → Reads text text []
-reads_none text = record { lines = []; split = refl; each = refl }
-
-pub reads_more : (text rest behind line : List ℕ) (rules : List Rule) (rule : Rule) → Reads text rest rules → lines_of rest ≡ line ∷ lines_of behind → read_line line ≡ Some rule → Reads text behind (rules ++ rule ∷ [])
-reads_more text rest behind line rules rule before cut is = record {
-  lines = before.lines ++ line ∷ [];
-  split = before.split ∙ ap (λ (l : List (List ℕ)). before.lines ++ l) cut ∙ sym (append_assoc before.lines (line ∷ []) (lines_of behind));
-  each = map-append read_line before.lines (line ∷ []) ∙ ap (λ (l : List (Option Rule)). l ++ read_line line ∷ []) before.each
-      ∙ ap (λ (o : Option Rule). all_some rules ++ o ∷ []) is ∙ sym (map-append (λ (r : Rule). Some r) rules (rule ∷ []));
+pub reads_none : (text : List ℕ) (rules : List Rule) → rules ≡ [] → Reads text text 0 rules
+reads_none text rules none = record {
+  lines = [];
+  split = refl;
+  are = record { each = none; names = subst (λ (rs : List Rule). AllPairs AreNamedApart rs) (sym none) (λ i j d before below. absurd (omega arith)); few = omega (arith, ap length none) };
+  count = refl;
 }
 
 pub apart_more : (rules : List Rule) (rule : Rule) → AllPairs AreNamedApart rules → ¬ IsTaken rule.name rules → AllPairs AreNamedApart (rules ++ rule ∷ [])
@@ -56,56 +53,61 @@ apart_more rules rule apart new = all_pairs_push AreNamedApart rules rule apart 
     at_place (r ∷ rules) zero d within = refl
     at_place (r ∷ rules) (suc k) d within = at_place rules k d (omega arith)
 
--- other rules of the same text begin with these
-same_front : (lines more : List (List ℕ)) (rules others : List Rule) → map read_line lines ≡ all_some rules → map read_line (lines ++ more) ≡ all_some others → (rest : List Rule) × (others ≡ rules ++ rest) × (map read_line more ≡ all_some rest)
-same_front [] more [] others one two = (others, refl, two)
-same_front [] more (rule ∷ rules) others one two = absurd (cc one)
-same_front (line ∷ lines) more [] others one two = absurd (cc one)
-same_front (line ∷ lines) more (rule ∷ rules) [] one two = absurd (cc two)
-same_front (line ∷ lines) more (rule ∷ rules) (other ∷ others) one two =
-    let head : other ≡ rule = cc (one, two) in
-    let tail_one : map read_line lines ≡ all_some rules = cc one in
-    let tail_two : map read_line (lines ++ more) ≡ all_some others = cc two in
-    let rest = same_front lines more rules others tail_one tail_two in
-    (rest.0, ap (λ (r : Rule). r ∷ others) head ∙ ap (λ (l : List Rule). rule ∷ l) rest.1, rest.2)
+lines_more : (lines : List (List ℕ)) (line : List ℕ) (rules further : List Rule) → AreLinesOf lines rules → AreLinesOf (line ∷ []) further → AreLinesOf (lines ++ line ∷ []) (rules ++ further)
+lines_more [] line rules further none is = subst (λ (rs : List Rule). AreLinesOf (line ∷ []) (rs ++ further)) (sym none) is
+lines_more (l ∷ lines) line rules further (inl skipped) is = inl (skipped.0, lines_more lines line rules further skipped.1 is)
+lines_more (l ∷ lines) line rules further (inr (rule, later, here, split, are)) is =
+    inr (rule, later ++ further, here, ap (λ (rs : List Rule). rs ++ further) split, lines_more lines line later further are is)
 
-module _ (text rest line behind : List ℕ) (rules others : List Rule) (before : Reads text rest rules) (cut : lines_of rest ≡ line ∷ lines_of behind) (are : IsRuleText text others) where
-  whole : map read_line (before.lines ++ line ∷ lines_of behind) ≡ all_some others
-  whole = ap (λ (l : List (List ℕ)). map read_line l) (sym (before.split ∙ ap (λ (l : List (List ℕ)). before.lines ++ l) cut)) ∙ are.each
+one_line : (line : List ℕ) (old new : List Rule) → IsReadBehind line old new → (further : List Rule) × (new ≡ old ++ further) × AreLinesOf (line ∷ []) further
+one_line line old new (inl (skipped, same)) = ([], same ∙ sym (append-nil old), inl (skipped, refl))
+one_line line old new (inr (is, room, added)) = (is.rule ∷ [], added, inr (is.rule, [], is.is, refl, refl))
 
-  goes_on : (next : Rule) × (later : List Rule) × (others ≡ rules ++ next ∷ later) × (read_line line ≡ Some next)
-  goes_on =
-      let split = same_front before.lines (line ∷ lines_of behind) rules others before.each whole in
-      first split.0 split.1 split.2
-    where
-      first : (qs : List Rule) → others ≡ rules ++ qs → map read_line (line ∷ lines_of behind) ≡ all_some qs → (next : Rule) × (later : List Rule) × (others ≡ rules ++ next ∷ later) × (read_line line ≡ Some next)
-      first [] is all = absurd (cc all)
-      first (q ∷ qs) is all = (q, qs, is, cc all)
+still_apart : (line : List ℕ) (old new : List Rule) → IsReadBehind line old new → AllPairs AreNamedApart old → AllPairs AreNamedApart new
+still_apart line old new (inl (skipped, same)) apart = subst (λ (rs : List Rule). AllPairs AreNamedApart rs) (sym same) apart
+still_apart line old new (inr (is, room, added)) apart = subst (λ (rs : List Rule). AllPairs AreNamedApart rs) (sym added) (apart_more old is.rule apart is.new)
 
-  pub no_rule : read_line line ≡ None → ⊥
-  no_rule none = cc (none, goes_on.3)
+still_few : (line : List ℕ) (old new : List Rule) → IsReadBehind line old new → length old ≤ 1024 → length new ≤ 1024
+still_few line old new (inl (skipped, same)) few = omega (arith, ap length same)
+still_few line old new (inr (is, room, added)) few = omega (arith, room, ap length added, length-append old (is.rule ∷ []))
 
-  pub too_many : 1024 ≤ length rules → ⊥
-  too_many many = omega (arith, are.few, ap length goes_on.2, length-append rules (goes_on.0 ∷ goes_on.1))
+pub reads_more : (text rest behind line : List ℕ) (number : ℕ) (old new : List Rule) → Reads text rest number old → lines_of rest ≡ line ∷ lines_of behind → IsReadBehind line old new → Reads text behind (number + 1) new
+reads_more text rest behind line number old new before cut is =
+    let further = one_line line old new is in
+    record {
+      lines = before.lines ++ line ∷ [];
+      split = before.split ∙ ap (λ (l : List (List ℕ)). before.lines ++ l) cut ∙ sym (append_assoc before.lines (line ∷ []) (lines_of behind));
+      are = record {
+        each = subst (λ (rs : List Rule). AreLinesOf (before.lines ++ line ∷ []) rs) (sym further.1) (lines_more before.lines line old further.0 before.are.each further.2);
+        names = still_apart line old new is before.are.names;
+        few = still_few line old new is before.are.few;
+      };
+      count = omega (arith, before.count, length-append before.lines (line ∷ []));
+    }
 
-  pub taken : (rule : Rule) → read_line line ≡ Some rule → IsTaken rule.name rules → ⊥
-  taken rule is has =
-      let next : goes_on.0 ≡ rule = cc (is, goes_on.3) in
-      let all : AllPairs AreNamedApart (rules ++ goes_on.0 ∷ goes_on.1) = subst (λ (l : List Rule). AllPairs AreNamedApart l) goes_on.2 are.names in
-      let size : length (rules ++ goes_on.0 ∷ goes_on.1) ≡ length rules + suc (length goes_on.1) = length-append rules (goes_on.0 ∷ goes_on.1) in
-      let early : get_or (rules ++ goes_on.0 ∷ goes_on.1) has.0 has.1 ≡ has.1 = get_or_append_left rules (goes_on.0 ∷ goes_on.1) has.1 has.0 has.2 ∙ has.3 in
-      let late : get_or (rules ++ goes_on.0 ∷ goes_on.1) (length rules) has.1 ≡ goes_on.0 = get_or-append_seam rules goes_on.0 goes_on.1 has.1 in
-      all has.0 (length rules) has.1 has.2 (omega arith)
-      (ap (λ (r : Rule). r.name) early ∙ has.4 ∙ ap (λ (r : Rule). r.name) (sym next) ∙ ap (λ (r : Rule). r.name) (sym late))
-
-pub whole_text : (text rest : List ℕ) (rules : List Rule) → Reads text rest rules → length rest ≡ 0 → AllPairs AreNamedApart rules → length rules ≤ 1024 → IsRuleText text rules
-unfolding lines_of
-whole_text text [] rules reads none names few = record {
-  each = ap (λ (l : List (List ℕ)). map read_line l) (reads.split ∙ append-nil reads.lines) ∙ reads.each;
-  names = names;
-  few = few;
+pub cause_of : (text rest behind line : List ℕ) (number : ℕ) (rules : List Rule) (e : RulesEnd) → Reads text rest number rules → lines_of rest ≡ line ∷ lines_of behind → IsCauseAt line (number + 1) rules e → IsCauseIn text e
+cause_of text rest behind line number rules Memory before cut is = tt
+cause_of text rest behind line number rules (Line n) before cut is = record {
+  rules = rules;
+  line = line;
+  up_to = record { before = before.lines; behind = lines_of behind; split = before.split ∙ ap (λ (l : List (List ℕ)). before.lines ++ l) cut; are = before.are };
+  bad = is.1;
+  number_is = omega (arith, is.0, before.count);
 }
-whole_text text (b ∷ rest) rules reads none names few = absurd (omega arith)
+cause_of text rest behind line number rules TooMany before cut is = record {
+  rules = rules;
+  line = line;
+  up_to = record { before = before.lines; behind = lines_of behind; split = before.split ∙ ap (λ (l : List (List ℕ)). before.lines ++ l) cut; are = before.are };
+  full = is.0;
+  rule = is.1.rule;
+  is = is.1.is;
+  new = is.1.new;
+}
+
+pub whole_text : (text rest : List ℕ) (number : ℕ) (rules : List Rule) → Reads text rest number rules → length rest ≡ 0 → IsRuleText text rules
+unfolding lines_of
+whole_text text [] number rules reads none = subst (λ (ls : List (List ℕ)). AreRules ls rules) (sym (reads.split ∙ append-nil reads.lines)) reads.are
+whole_text text (b ∷ rest) number rules reads none = absurd (omega arith)
 
 pub name_at_place : (rules : List Rule) (n : ℕ) (rule : Rule) → n < length rules → rule ≡ get_or rules n rule → rule.name ≡ name_at rules n
 name_at_place [] n rule within is = absurd (omega arith)

@@ -13,7 +13,8 @@ use Rattle.std.proofs.lemmas.Map.Text.{is_eq-slice_cmp}
 use Rattle.std.proofs.lemmas.Slice.Eq.{bytes_eq-Decides}
 use Rattle.std.proofs.Math.Seq.{get_or-append_seam}
 use Rattle.rule_terms.specs.Rule.{Rule}
-use Rattle.rule_matcher.specs.Names.{IsTaken, AreNamesOf}
+use Rattle.rule_terms.specs.RuleText.{IsTaken}
+use Rattle.rule_matcher.specs.Names.{AreNamesOf}
 
 -- a name is taken among one rule more where it was, or is that rule's
 taken_among : (name : List ℕ) (rules : List Rule) (rule : Rule) → IsTaken name (rules ++ rule ∷ []) → IsTaken name rules ⊎ (rule.name ≡ name)

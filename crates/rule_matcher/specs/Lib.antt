@@ -1,2 +1,5 @@
 pub mod Line
 pub mod Names
+pub mod Spots
+pub mod Ends
+pub mod Bounds

@@ -1,13 +1,13 @@
 // What the rules find in a datagram.
-ghost use Rattle.std.specs.Prelude.{◌≡◌, ℕ, ◌<◌, ◌≤◌, ◌++◌, List, [], false, length, IfOk, OnOk, IfSome};
-ghost use Rattle.std.specs.List.{list_any};
+ghost use Rattle.std.specs.Prelude.{◌≡◌, ℕ, ◌+◌, ◌<◌, ◌≤◌, ◌++◌, List, [], false, true, length, IfOk, OnOk, IfSome};
+ghost use Rattle.std.specs.List.{list_any, list_all};
 ghost use Rattle.rule_terms.specs.Match as term;
 ghost use Rattle.rule_terms.specs.Rule as rule_term;
 
+use crate::lowered::lowered_copy;
 use crate::rule_list::{Pattern, Rule, Rules};
 use byteorder::{BigEndian, ByteOrder};
 use capture_terms::Header;
-use memchr::memmem;
 use rule_terms::places_are_least;
 use std::alloc::{AllocError, Global};
 
@@ -27,7 +27,8 @@ pub fn findings_of(
     requires { length payload.now ≤ 65535 }
     ensures findings { IfOk result (λ found. found.items ≡ term.findings_of rules.now header.now payload.now) }
 {
-    found_by(alloc, rules.as_slice(), header, payload)
+    let lowered = lowered_copy(alloc, payload)?;
+    found_by(alloc, rules.as_slice(), header, payload, &lowered)
 }
 
 /// Whether some rule looks into datagrams of this header, as far as its protocol tells. Where none
@@ -47,19 +48,22 @@ fn any_has_protocol(rules: &[Rule], protocol: u8) -> bool
         .any(|rule| has_protocol(rule.protocol, protocol))
 }
 
+// The payload comes twice: as it is, and with its letters in lower case.
 fn found_by(
     alloc: Global,
     rules: &[Rule],
     header: &Header,
     payload: &[u8],
+    lowered: &[u8],
 ) -> Result<Vec<(u16, u16)>, AllocError>
     requires few { length rules.now ≤ 1024 }
     requires short { length payload.now ≤ 65535 }
+    requires lowered { lowered.now ≡ term.compared true payload.now }
     ensures { IfOk result (λ found. found.items ≡ term.findings_of rules.now header.now payload.now) }
 {
     let mut found = Vec::new(alloc);
     for (number, rule) in rules.iter().enumerate() {
-        let place = finding(rule, header, payload);
+        let place = finding(rule, header, payload, lowered);
         add(&mut found, number as u16, place)?;
     }
     Ok(found)
@@ -75,21 +79,29 @@ fn add(found: &mut Vec<(u16, u16)>, number: u16, place: Option<u16>) -> Result<(
 }
 
 // The header is looked at first, so a rule that it rules out costs no search.
-#[tactic(auto, unfolding(rule_terms::specs::Match::finding_of, rule_terms::specs::Match::is_for))]
-fn finding(rule: &Rule, header: &Header, payload: &[u8]) -> Option<u16>
-    requires { length payload.now ≤ 65535 }
+#[tactic(auto, unfolding(rule_terms::specs::Match::finding_of))]
+fn finding(rule: &Rule, header: &Header, payload: &[u8], lowered: &[u8]) -> Option<u16>
+    requires short { length payload.now ≤ 65535 }
+    requires lowered { lowered.now ≡ term.compared true payload.now }
     ensures { result ≡ term.finding_of rule.now header.now payload.now }
 {
-    if has_protocol(rule.protocol, header.protocol)
-        && has_destination(rule.destination_port, header.protocol, payload)
-    {
-        match place(&rule.first, payload) {
+    if looks_into(rule, header, payload) && are_there(&rule.others, payload, lowered) {
+        match place(&rule.first, payload, lowered) {
             None => None,
             Some(place) => Some(place as u16),
         }
     } else {
         None
     }
+}
+
+#[tactic(auto, unfolding(rule_terms::specs::Match::is_for))]
+fn looks_into(rule: &Rule, header: &Header, payload: &[u8]) -> bool
+    ensures { result ≡ term.is_for rule.now header.now payload.now }
+{
+    has_protocol(rule.protocol, header.protocol)
+        && has_port(rule.source_port, 0, header.protocol, payload)
+        && has_port(rule.destination_port, 2, header.protocol, payload)
 }
 
 fn has_protocol(wanted: Option<u8>, protocol: u8) -> bool
@@ -101,24 +113,39 @@ fn has_protocol(wanted: Option<u8>, protocol: u8) -> bool
     }
 }
 
-fn has_destination(wanted: Option<u16>, protocol: u8, payload: &[u8]) -> bool
-    ensures { result ≡ term.is_destination wanted protocol payload.now }
+fn has_port(wanted: Option<u16>, at: usize, protocol: u8, payload: &[u8]) -> bool
+    requires { at ≤ 2 }
+    ensures { result ≡ term.is_port wanted at protocol payload.now }
 {
     match wanted {
         None => true,
         Some(wanted) => {
             (protocol == TCP || protocol == UDP)
                 && payload.len() >= 4
-                && BigEndian::read_u16(&payload[2..]) == wanted
+                && BigEndian::read_u16(&payload[at..]) == wanted
         }
     }
 }
 
-#[tactic(auto, using(crate::proofs::Places::found_place))]
-fn place(pattern: &Pattern, payload: &[u8]) -> Option<usize>
+fn are_there(patterns: &[Pattern], payload: &[u8], lowered: &[u8]) -> bool
+    requires { lowered.now ≡ term.compared true payload.now }
+    ensures { result ≡ list_all (term.is_there payload.now) patterns.now }
+{
+    patterns.iter().all(
+        |pattern|
+            requires { lowered.now ≡ term.compared true payload.now }
+        { place(pattern, payload, lowered).is_some() },
+    )
+}
+
+fn place(pattern: &Pattern, payload: &[u8], lowered: &[u8]) -> Option<usize>
+    requires { lowered.now ≡ term.compared true payload.now }
     ensures place { result ≡ term.place_of pattern.now payload.now }
     ensures within { IfSome result (λ place. place ≤ length payload.now) }
 {
-    places_are_least();
-    memmem::find(payload, &pattern.bytes)
+    if pattern.compares_lowered() {
+        pattern.place_in(lowered)
+    } else {
+        pattern.place_in(payload)
+    }
 }

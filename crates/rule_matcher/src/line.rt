@@ -1,62 +1,73 @@
 // A line of a rule text.
-ghost use Rattle.std.specs.Prelude.{◌≡◌};
+ghost use Rattle.std.specs.Prelude.{◌≡◌, IfOk};
 ghost use Rattle.std.specs.List.{list_all};
-ghost use Rattle.std.specs.Option.{option_map, option_copied};
-ghost use Rattle.rule_terms.specs.Grammar.{behind, word, number_of, digits_from, is_name, is_name_byte, is_pattern, is_pattern_byte, protocol_of, quoted, port_in, read_rule};
-ghost use Rattle.rule_matcher.specs.Line.{rule_of};
+ghost use Rattle.std.specs.Option.{option_map};
+ghost use Rattle.rule_terms.specs.Grammar.{is_name, is_name_byte};
+ghost use Rattle.rule_terms.specs.Reader as reader;
+ghost use Rattle.rule_matcher.specs.Line.{front_of};
 
-use memchr::memchr;
+use crate::patterns::{has, others};
+use crate::rule_list::Rule;
+use crate::words::{behind_word, first_word, number, number_behind};
+use std::alloc::{AllocError, Global};
 
-/// What a line says, within the line.
+/// What a line says before its patterns, within the line, and the rest of the line.
 #[derive(Clone, Copy, Debug)]
-pub(crate) struct Line<'a> {
+pub(crate) struct Front<'a> {
     pub(crate) name: &'a [u8],
     pub(crate) protocol: Option<u8>,
+    pub(crate) source_port: Option<u16>,
     pub(crate) destination_port: Option<u16>,
-    pub(crate) pattern: &'a [u8],
+    pub(crate) rest: &'a [u8],
 }
 
-/// The rule that the line is, if it is one.
-#[tactic(auto, unfolding(rule_terms::specs::Grammar::read_rule))]
-pub(crate) fn rule_line(line: &[u8]) -> Option<Line<'_>>
-    ensures { option_map rule_of result ≡ read_rule line.now }
+/// The front of the rule that the line is, if it has one.
+#[tactic(auto, unfolding(rule_terms::specs::Reader::read_head, rule_terms::specs::Reader::read_ports))]
+pub(crate) fn read_front(line: &[u8]) -> Option<Front<'_>>
+    ensures { option_map front_of result ≡ reader.read_head line.now }
 {
-    let (name, rest) = first_word(bytes_behind(b"rule ", line)?)?;
-    let (word, rest) = first_word(bytes_behind(b"proto ", rest)?)?;
+    let (name, rest) = first_word(behind_word(b"rule", line)?);
+    let (word, rest) = first_word(behind_word(b"proto", rest)?);
     let protocol = protocol(word)?;
-    let (destination_port, rest) = port(rest)?;
-    let pattern = before_quote(bytes_behind(b"has \"", rest)?)?;
-    if is_rule_name(name) && is_rule_pattern(pattern) {
-        Some(Line {
+    let (source_port, rest) = number_behind(b"sport", rest)?;
+    let (destination_port, rest) = number_behind(b"dport", rest)?;
+    if is_rule_name(name) {
+        Some(Front {
             name,
             protocol,
+            source_port,
             destination_port,
-            pattern,
+            rest,
         })
     } else {
         None
     }
 }
 
-#[tactic(auto, unfolding(rule_terms::specs::Grammar::behind))]
-fn bytes_behind<'a>(front: &[u8], bytes: &'a [u8]) -> Option<&'a [u8]>
-    ensures { option_copied result ≡ behind front.now bytes.now }
+/// The rule with this front, if patterns stand behind it.
+#[tactic(auto, unfolding(rule_terms::specs::Reader::read_patterns))]
+pub(crate) fn rule_with(alloc: Global, front: Front<'_>) -> Result<Option<Rule>, AllocError>
+    ensures { IfOk result (λ rule. rule ≡ reader.read_patterns (front_of front.entry)) }
 {
-    bytes.strip_prefix(front)
+    let Some(first) = has(alloc, front.rest)? else {
+        return Ok(None);
+    };
+    let Some(others) = others(alloc, first.rest)? else {
+        return Ok(None);
+    };
+    Ok(Some(Rule {
+        name: front.name.to_vec(alloc)?,
+        protocol: front.protocol,
+        source_port: front.source_port,
+        destination_port: front.destination_port,
+        first: first.pattern,
+        others,
+    }))
 }
 
-fn first_word(bytes: &[u8]) -> Option<(&[u8], &[u8])>
-    ensures { option_map (λ found. (found.0.now, found.1.now)) result ≡ word bytes.now }
-{
-    match memchr(b' ', bytes) {
-        None => None,
-        Some(end) => Some((&bytes[..end], &bytes[end + 1..])),
-    }
-}
-
-#[tactic(auto, unfolding(rule_terms::specs::Grammar::protocol_of))]
+#[tactic(auto, unfolding(rule_terms::specs::Reader::protocol_of))]
 fn protocol(word: &[u8]) -> Option<Option<u8>>
-    ensures { result ≡ protocol_of word.now }
+    ensures { result ≡ reader.protocol_of word.now }
 {
     if word == b"any".as_slice() {
         Some(None)
@@ -67,61 +78,12 @@ fn protocol(word: &[u8]) -> Option<Option<u8>>
     } else if word == b"udp".as_slice() {
         Some(Some(17))
     } else {
-        None
-    }
-}
-
-#[tactic(auto, unfolding(rule_terms::specs::Grammar::port_in))]
-fn port(bytes: &[u8]) -> Option<(Option<u16>, &[u8])>
-    ensures { option_map (λ found. (found.0, found.1.now)) result ≡ port_in bytes.now }
-{
-    match bytes_behind(b"dport ", bytes) {
-        None => Some((None, bytes)),
-        Some(rest) => {
-            let (digits, behind) = first_word(rest)?;
-            let port = number(digits)?;
-            Some((Some(port), behind))
+        let number = number(word)?;
+        if number <= 255 {
+            Some(Some(number as u8))
+        } else {
+            None
         }
-    }
-}
-
-#[tactic(auto, unfolding(rule_terms::specs::Grammar::number_of))]
-fn number(digits: &[u8]) -> Option<u16>
-    ensures { result ≡ number_of digits.now }
-{
-    if digits.is_empty() || digits.len() > 1 && digits[0] == b'0' {
-        None
-    } else {
-        digits_value(digits)
-    }
-}
-
-#[tactic(auto, unfolding(rule_terms::specs::Grammar::digits_from))]
-fn digits_value(digits: &[u8]) -> Option<u16>
-    ensures { result ≡ digits_from 0 digits.now }
-{
-    let mut number = 0u16;
-    for digit in digits {
-        if *digit < b'0' || *digit > b'9' {
-            return None;
-        }
-        let next = 10 * u32::from(number) + u32::from(*digit - b'0');
-        if next > 65_535 {
-            return None;
-        }
-        number = next as u16;
-    }
-    Some(number)
-}
-
-#[tactic(auto, unfolding(rule_terms::specs::Grammar::quoted))]
-fn before_quote(bytes: &[u8]) -> Option<&[u8]>
-    ensures { option_copied result ≡ quoted bytes.now }
-{
-    if !bytes.is_empty() && bytes[bytes.len() - 1] == b'"' {
-        Some(&bytes[..bytes.len() - 1])
-    } else {
-        None
     }
 }
 
@@ -147,23 +109,4 @@ fn may_stand_in_name(c: u8) -> bool
         || c == b'_'
         || c == b'-'
         || c == b'.'
-}
-
-#[tactic(auto, unfolding(rule_terms::specs::Grammar::is_pattern))]
-fn is_rule_pattern(text: &[u8]) -> bool
-    ensures { result ≡ is_pattern text.now }
-{
-    !text.is_empty() && text.len() <= 64 && are_pattern_bytes(text)
-}
-
-fn are_pattern_bytes(text: &[u8]) -> bool
-    ensures { result ≡ list_all is_pattern_byte text.now }
-{
-    text.iter().all(|c| may_stand_in_pattern(*c))
-}
-
-fn may_stand_in_pattern(c: u8) -> bool
-    ensures { result ≡ is_pattern_byte c }
-{
-    c >= b' ' && c <= b'~' && c != b'"' && c != b'|'
 }

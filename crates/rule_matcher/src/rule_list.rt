@@ -1,21 +1,96 @@
 // Rules as they are kept: each type is seen as what `rule_terms` calls by its name.
-ghost use Rattle.std.specs.Prelude.{◌≡◌, ◌<◌, ◌≤◌, length, vec_len};
+ghost use Rattle.std.specs.Prelude.{◌≡◌, ℕ, ◌<◌, ◌≤◌, List, IfOk, IfSome, length, vec_len};
+ghost use Rattle.rule_terms.specs.Match as match_term;
+ghost use Rattle.rule_matcher.specs.Bounds.{low_of, high_of};
 ghost use Rattle.rule_terms.specs.RuleText.{name_at};
 
+use crate::lowered::compared;
+use memchr::memmem::{Finder, FinderBuilder};
+use rule_terms::places_are_least;
+use std::alloc::{AllocError, Global};
 use std::marker::Model;
 
-/// What a rule looks for in a payload.
+/// What a rule looks for in a payload, with the finder of its bytes as they are compared.
 #[derive(Drop)]
 pub(crate) struct Pattern {
-    pub(crate) bytes: Vec<u8>,
+    bytes: Vec<u8>,
+    nocase: bool,
+    from: Option<u16>,
+    to: Option<u16>,
+    finder: Finder<'static>,
 }
 
 impl Model for Pattern {
+    ghost use Rattle.std.specs.Prelude.{◌≡◌};
     ghost use Rattle.rule_terms.specs.Rule as term;
+    ghost use Rattle.rule_terms.specs.Match.{compared};
 
     ghost Value = { term.Pattern };
 
-    ghost view = { λ p. record { bytes = p.bytes.items } };
+    ghost view = { λ p. record { bytes = p.bytes.items; nocase = p.nocase; from = p.from; to = p.to } };
+
+    ghost invariant = { λ p. p.finder ≡ compared p.nocase p.bytes.items };
+}
+
+impl Pattern {
+    pub(crate) fn new(
+        alloc: Global,
+        bytes: Vec<u8>,
+        nocase: bool,
+        from: Option<u16>,
+        to: Option<u16>,
+    ) -> Result<Pattern, AllocError>
+        ensures { IfOk result (λ p. p ≡ record { bytes = bytes.items; nocase = nocase; from = from; to = to }) }
+    {
+        let needle = compared(alloc, nocase, &bytes)?;
+        let finder = FinderBuilder::new().build_forward_owned(needle);
+        Ok(Pattern {
+            bytes,
+            nocase,
+            from,
+            to,
+            finder,
+        })
+    }
+
+    /// Whether upper case and lower case of a letter count as one.
+    pub(crate) fn compares_lowered(&self) -> bool
+        ensures { result ≡ self.now.nocase }
+    {
+        self.nocase
+    }
+
+    /// The least place at which the pattern stands in a payload, which is given as it is compared.
+    pub(crate) fn place_in(&self, compared: &[u8]) -> Option<usize>
+        ensures place { (payload : List ℕ) → compared.now ≡ match_term.compared self.now.nocase payload → result ≡ match_term.place_of self.now payload }
+        ensures within { IfSome result (λ place. place ≤ length compared.now) }
+    {
+        places_are_least();
+        let (low, high) = self.bounds(compared.len());
+        if low > high {
+            return None;
+        }
+        match self.finder.find(&compared[low..high]) {
+            None => None,
+            Some(place) => Some(low + place),
+        }
+    }
+
+    // The part of a payload of this length within which the pattern has to stand.
+    fn bounds(&self, len: usize) -> (usize, usize)
+        ensures low { result.0 ≡ low_of self.now.from }
+        ensures high { result.1 ≡ high_of self.now.to len }
+    {
+        let low = match self.from {
+            None => 0,
+            Some(from) => usize::from(from),
+        };
+        let high = match self.to {
+            None => len,
+            Some(to) => len.min(usize::from(to)),
+        };
+        (low, high)
+    }
 }
 
 /// A rule of a text.
@@ -23,8 +98,10 @@ impl Model for Pattern {
 pub(crate) struct Rule {
     pub(crate) name: Vec<u8>,
     pub(crate) protocol: Option<u8>,
+    pub(crate) source_port: Option<u16>,
     pub(crate) destination_port: Option<u16>,
     pub(crate) first: Pattern,
+    pub(crate) others: Vec<Pattern>,
 }
 
 impl Model for Rule {
@@ -32,7 +109,7 @@ impl Model for Rule {
 
     ghost Value = { term.Rule };
 
-    ghost view = { λ r. record { name = r.name.items; protocol = r.protocol; destination_port = r.destination_port; first = r.first } };
+    ghost view = { λ r. record { name = r.name.items; protocol = r.protocol; source_port = r.source_port; destination_port = r.destination_port; first = r.first; others = r.others.items } };
 }
 
 /// The rules of a text, in order and numbered from 0. There are at most 1,024.
@@ -55,8 +132,11 @@ impl Model for Rules {
 /// Why a text gave no rules.
 #[derive(Clone, Copy, Debug, PartialEq, Eq)]
 pub enum RulesEnd {
-    /// The text isn't one of rules, as far as this stage of the language goes.
-    Unbuilt,
+    /// The first line that is neither skipped nor a rule of a new name, counted from 1. At most 1,024
+    /// rules stand before it.
+    Line { number: u32 },
+    /// A further rule of a new name stands behind 1,024 rules.
+    TooMany,
     /// Memory ran out.
     Memory,
 }

@@ -7,112 +7,193 @@ use std::test::Fail;
 // A datagram over UDP from port 4000 to port 53, and then "hello".
 const HELLO: &[u8] = b"\x0f\xa0\x00\x35\x00\x0d\x00\x00hello";
 
-// How many rules the text has, or none where it isn't a text of rules.
-fn count_of(rt: &impl Abort, alloc: Global, text: &[u8]) -> Option<u32> {
+const UDP: u8 = 17;
+
+fn header(protocol: u8) -> Header {
+    Header {
+        source: 0x0a00_0001,
+        destination: 0xc000_0201,
+        protocol,
+    }
+}
+
+// How many rules the text has, or why it has none.
+fn count_of(alloc: Global, text: &[u8]) -> Result<u32, RulesEnd> {
     match rules(alloc, text) {
-        Ok(rules) => Some(rules.len()),
-        Err(end) => {
-            assert_eq!(rt; end, RulesEnd::Unbuilt);
-            None
-        }
+        Ok(rules) => Ok(rules.len()),
+        Err(end) => Err(end),
+    }
+}
+
+fn is_accepted(rt: &impl Abort, alloc: Global, texts: &[&[u8]]) {
+    for (number, text) in texts.iter().enumerate() {
+        let count = count_of(alloc, text);
+        assert_eq!(rt; count, Ok(1), "text {number}");
+    }
+}
+
+fn is_bad(rt: &impl Abort, alloc: Global, texts: &[&[u8]]) {
+    for (number, text) in texts.iter().enumerate() {
+        let count = count_of(alloc, text);
+        assert_eq!(rt; count, Err(RulesEnd::Line { number: 1 }), "text {number}");
     }
 }
 
 #[test]
-fn a_text_has_a_rule_for_each_line_or_none_at_all(rt: HostRuntime) {
-    let cases: [(&[u8], Option<u32>); 30] = [
-        (b"", Some(0)),
-        (b"rule greet proto udp dport 53 has \"hello\"", Some(1)),
-        (b"rule greet proto udp dport 53 has \"hello\"\n", Some(1)),
-        (b"rule greet proto udp dport 53 has \"hello\"\r\n", Some(1)),
+fn each_part_of_a_rule_is_read(rt: HostRuntime) {
+    let texts: [&[u8]; 24] = [
+        b"rule greet proto udp dport 53 has \"hello\"",
+        b"rule greet proto udp dport 53 has \"hello\"\r\n",
+        b" \trule\tgreet  proto udp has \"hello\"\t \n",
+        b"rule A_b-c.9 proto tcp dport 0 has \" ~\"",
+        b"rule nnnnnnnnnnnnnnnnnnnnnnnnnnnnnnnn proto any has \"h\"",
+        b"rule a proto any has \"h\"",
+        b"rule a proto icmp has \"h\"",
+        b"rule a proto 0 has \"h\"",
+        b"rule a proto 255 has \"h\"",
+        b"rule a proto 6 sport 65535 has \"h\"",
+        b"rule a proto udp sport 1 dport 2 has \"h\"",
+        b"rule a proto any has \"h\" nocase",
+        b"rule a proto any has \"h\" from 8",
+        b"rule a proto any has \"h\" to 40",
+        b"rule a proto any has \"h\" nocase from 8 to 40",
+        b"rule a proto any has \"h\" from 40 to 8",
+        b"rule a proto any has \"|07|example|03|com|00|\" from 20",
+        b"rule a proto any has \"|6f|\"",
+        b"rule a proto any has \"|6F6f|\"",
+        b"rule a proto any has \"|  6f  6F |x| 22|\"",
+        b"rule a proto any has \"a b\" has \"c\"  has \"d\" to 9 has \"e\"",
+        b"rule a proto any has \"1\" has \"2\" has \"3\" has \"4\" has \"5\" has \"6\" has \"7\" has \"8\"",
+        b"\n \t\n# rule a\n  # \xff\x00 b\r\nrule a proto any has \"h\"",
+        b"#\nrule # proto any has \"h\"\n",
+    ];
+    is_accepted(&rt, rt.alloc(), &texts[..23]);
+    assert_eq!(rt;
+        count_of(rt.alloc(), texts[23]),
+        Err(RulesEnd::Line { number: 2 })
+    );
+}
+
+#[test]
+fn what_is_no_rule_is_bad(rt: HostRuntime) {
+    let texts: [&[u8]; 46] = [
+        b"x",
+        b"rules a proto any has \"h\"",
+        b"rulea proto any has \"h\"",
+        b"Rule a proto any has \"h\"",
+        b"rule a proto any has \"h\"\r\r\n",
+        b"rule a\rproto any has \"h\"",
+        // Names.
+        b"rule proto any has \"h\"",
+        b"rule a/b proto any has \"h\"",
+        b"rule nnnnnnnnnnnnnnnnnnnnnnnnnnnnnnnnn proto any has \"h\"",
+        // Protocols.
+        b"rule x proto udp",
+        b"rule a proto TCP has \"h\"",
+        b"rule a proto 256 has \"h\"",
+        b"rule a proto 06 has \"h\"",
+        b"rule a has \"h\"",
+        // Ports.
+        b"rule a proto udp dport 053 has \"h\"",
+        b"rule a proto udp dport 65536 has \"h\"",
+        b"rule a proto udp dport +53 has \"h\"",
+        b"rule a proto udp dport has \"h\"",
+        b"rule a proto udp dport 2 sport 1 has \"h\"",
+        b"rule a proto udp sport 1 sport 1 has \"h\"",
+        b"rule a proto udp dport 99999999999999999999 has \"h\"",
+        // Patterns.
+        b"rule a proto any has h",
+        b"rule a proto any has \"\"",
+        b"rule a proto any has \"a\"b\"",
+        b"rule a proto any has \"a\"nocase",
+        b"rule a proto any has \"a\x7f\"",
+        b"rule a proto any has \"a\x09b\"",
+        b"rule a proto any has \"a",
+        b"rule a proto any \"a\"",
+        b"rule a proto any has \"||\"",
+        b"rule a proto any has \"| |\"",
+        b"rule a proto any has \"|6|\"",
+        b"rule a proto any has \"|6 f|\"",
+        b"rule a proto any has \"|6g|\"",
+        b"rule a proto any has \"|\x096f|\"",
+        b"rule a proto any has \"|6f\"",
+        b"rule a proto any has \"a|b\"",
+        b"rule a proto any has \"ppppppppppppppppppppppppppppppppppppppppppppppppppppppppppppppppp\"",
+        // Bounds and case.
+        b"rule a proto any has \"h\" to 8 from 1",
+        b"rule a proto any has \"h\" from 8 nocase",
+        b"rule a proto any has \"h\" nocase nocase",
+        b"rule a proto any has \"h\" from",
+        b"rule a proto any has \"h\" from 65536",
+        b"rule a proto any has \"h\" NOCASE",
+        b"rule a proto any has \"h\" # why",
+        b"rule a proto any has \"1\" has \"2\" has \"3\" has \"4\" has \"5\" has \"6\" has \"7\" has \"8\" has \"9\"",
+    ];
+    is_bad(&rt, rt.alloc(), &texts);
+}
+
+#[test]
+fn lines_count_from_1_and_the_first_bad_one_is_told(rt: HostRuntime) {
+    let cases: [(&[u8], Result<u32, RulesEnd>); 7] = [
+        (b"", Ok(0)),
+        (b"\n\n", Ok(0)),
+        (
+            b"# c\n\nrule x proto udp",
+            Err(RulesEnd::Line { number: 3 }),
+        ),
+        (
+            b"# c\r\n\r\nrule x proto udp\nx\n",
+            Err(RulesEnd::Line { number: 3 }),
+        ),
+        (
+            b"rule a proto any has \"h\"\nrule b proto any has \"h\"\nrule a proto udp has \"i\"",
+            Err(RulesEnd::Line { number: 3 }),
+        ),
         (
             b"rule one proto icmp has \"ijkl\"\nrule two proto icmp has \"XXXX\"",
-            Some(2),
+            Ok(2),
         ),
-        (b"rule A_b-c.9 proto tcp dport 0 has \" ~\"", Some(1)),
-        (b"rule a proto any dport 65535 has \"h\"", Some(1)),
-        // One carriage return is dropped, and no more.
-        (b"rule a proto any has \"h\"\r\r\n", None),
-        // A line without a rule.
-        (b"\n", None),
-        (b"rule a proto any has \"h\"\n\n", None),
-        (b"# c\n", None),
-        // Words and the spaces between them.
-        (b" rule a proto any has \"h\"", None),
-        (b"rule a  proto any has \"h\"", None),
-        (b"rule a proto any has \"h\" ", None),
-        (b"rule a\tproto any has \"h\"", None),
-        (b"rule a proto any has h", None),
-        (b"rule x proto udp", None),
-        // Names.
-        (b"rule  proto any has \"h\"", None),
-        (b"rule a/b proto any has \"h\"", None),
         (
-            b"rule a proto any has \"h\"\nrule a proto udp has \"i\"",
-            None,
+            b"rule a proto any has \"h\"\nrule A proto any has \"h\"\n",
+            Ok(2),
         ),
-        // Protocols and ports.
-        (b"rule a proto 6 has \"h\"", None),
-        (b"rule a proto TCP has \"h\"", None),
-        (b"rule a proto udp dport 053 has \"h\"", None),
-        (b"rule a proto udp dport 65536 has \"h\"", None),
-        (b"rule a proto udp dport +53 has \"h\"", None),
-        (b"rule a proto udp dport has \"h\"", None),
-        // Patterns.
-        (b"rule a proto any has \"\"", None),
-        (b"rule a proto any has \"a\"b\"", None),
-        (b"rule a proto any has \"a|b\"", None),
-        (b"rule a proto any has \"a\x7f\"", None),
     ];
     for (number, (text, want)) in cases.iter().enumerate() {
-        let count = count_of(&rt, rt.alloc(), text);
-        assert_eq!(rt; count, *want, "text {number}");
+        assert_eq!(rt; count_of(rt.alloc(), text), *want, "text {number}");
     }
 }
 
-#[test]
-fn words_of_later_stages_are_unbuilt(rt: HostRuntime) {
-    let texts: [&[u8]; 3] = [
-        b"rule b proto udp has \"LL\" nocase",
-        b"rule c proto udp sport 4000 has \"|6f|\"",
-        b"rule c proto any has \"ab\" from 8 to 40",
-    ];
-    for text in texts {
-        assert_eq!(rt; count_of(&rt, rt.alloc(), text), None);
+// The rules `r0`, `r1` and so on.
+fn many_rules(alloc: Global, count: u32) -> Result<Vec<u8>, Fail> {
+    let mut text = Vec::new(alloc);
+    for number in 0..count {
+        text.extend_from_slice(b"rule r")?;
+        let digits = number.to_string(alloc)?;
+        text.extend_from_slice(digits.as_bytes())?;
+        text.extend_from_slice(b" proto any has \"x\"\n")?;
     }
-}
-
-#[test]
-fn the_longest_name_and_pattern(rt: HostRuntime) -> Result<(), Fail> {
-    let alloc = rt.alloc();
-    // The bytes of a name, those of a pattern, and how many rules the text has.
-    for (name, pattern, want) in [(32, 64, Some(1)), (33, 64, None), (32, 65, None)] {
-        let mut text = b"rule ".to_vec(alloc)?;
-        for _ in 0..name {
-            text.push(b'n')?;
-        }
-        text.extend_from_slice(b" proto any has \"")?;
-        for _ in 0..pattern {
-            text.push(b'p')?;
-        }
-        text.push(b'"')?;
-        assert_eq!(rt; count_of(&rt, alloc, &text), want);
-    }
-    Ok(())
+    Ok(text)
 }
 
 #[test]
 fn at_most_1024_rules(rt: HostRuntime) -> Result<(), Fail> {
     let alloc = rt.alloc();
-    for (count, want) in [(1024u32, Some(1024)), (1025, None)] {
-        let mut text = Vec::new(alloc);
-        for number in 0..count {
-            text.extend_from_slice(b"rule r")?;
-            let digits = number.to_string(alloc)?;
-            text.extend_from_slice(digits.as_bytes())?;
-            text.extend_from_slice(b" proto any has \"x\"\n")?;
-        }
-        assert_eq!(rt; count_of(&rt, alloc, &text), want);
+    assert_eq!(rt; count_of(alloc, &many_rules(alloc, 1024)?), Ok(1024));
+    assert_eq!(rt;
+        count_of(alloc, &many_rules(alloc, 1025)?),
+        Err(RulesEnd::TooMany)
+    );
+    // A line behind the 1,024th rule that is no rule, or one of a name that is taken, is bad.
+    for line in [
+        b"rule x proto udp".as_slice(),
+        b"rule r7 proto any has \"x\"",
+    ] {
+        let mut text = many_rules(alloc, 1024)?;
+        text.extend_from_slice(line)?;
+        assert_eq!(rt;
+            count_of(alloc, &text),
+            Err(RulesEnd::Line { number: 1025 })
+        );
     }
     Ok(())
 }
@@ -120,61 +201,74 @@ fn at_most_1024_rules(rt: HostRuntime) -> Result<(), Fail> {
 #[test]
 fn each_matching_rule_is_found_at_its_least_place(rt: HostRuntime) -> Result<(), Fail> {
     let alloc = rt.alloc();
-    let cases: [(&[u8], u8, &[u8], &[(u16, u16)]); 9] = [
+    let cases: [(&[u8], u8, &[u8], &[(u16, u16)]); 22] = [
         (
-            b"rule greet proto udp dport 53 has \"hello\"",
-            17,
+            b"rule a proto any has \"h\"\nrule b proto udp has \"LL\" nocase\nrule c proto udp sport 4000 has \"|6f|\"",
+            UDP,
+            HELLO,
+            &[(0, 8), (1, 10), (2, 12)],
+        ),
+        // The first of two places.
+        (b"rule l proto udp has \"l\"", UDP, HELLO, &[(0, 10)]),
+        // Protocols by name and by number.
+        (b"rule a proto 17 has \"h\"", UDP, HELLO, &[(0, 8)]),
+        (b"rule a proto tcp has \"h\"", UDP, HELLO, &[]),
+        // Ports: another one, with its bytes exchanged, at ICMP, in a payload of 3 bytes.
+        (b"rule a proto udp dport 54 has \"h\"", UDP, HELLO, &[]),
+        (b"rule a proto udp sport 53 has \"h\"", UDP, HELLO, &[]),
+        (b"rule a proto udp dport 13568 has \"h\"", UDP, HELLO, &[]),
+        (b"rule a proto any dport 53 has \"h\"", 1, HELLO, &[]),
+        (b"rule a proto any dport 53 has \"h\"", 6, HELLO, &[(0, 8)]),
+        (
+            b"rule a proto any sport 4000 has \"|a0|\"",
+            UDP,
+            b"\x0f\xa0\x00",
+            &[],
+        ),
+        // Bounds: a pattern ends at `to` at the most, and begins at `from` at the least.
+        (b"rule a proto any has \"lo\" to 13", 1, HELLO, &[(0, 11)]),
+        (b"rule a proto any has \"lo\" to 12", 1, HELLO, &[]),
+        (b"rule a proto any has \"l\" from 11", 1, HELLO, &[(0, 11)]),
+        (b"rule a proto any has \"l\" from 12", 1, HELLO, &[]),
+        (b"rule a proto any has \"l\" from 40", 1, HELLO, &[]),
+        (
+            b"rule a proto any has \"o\" from 5 to 65535",
+            1,
+            HELLO,
+            &[(0, 12)],
+        ),
+        // Case: letters alone, also those written as pairs.
+        (
+            b"rule a proto any has \"|48|EL\" nocase",
+            1,
             HELLO,
             &[(0, 8)],
         ),
-        (b"rule a proto any has \"h\"", 17, HELLO, &[(0, 8)]),
-        // The first of two places.
-        (b"rule l proto udp has \"l\"", 17, HELLO, &[(0, 10)]),
-        // Another protocol, another port, no port at ICMP, a port with its bytes exchanged.
+        (b"rule a proto any has \"HEL\"", 1, HELLO, &[]),
         (
-            b"rule greet proto tcp dport 53 has \"hello\"",
-            17,
-            HELLO,
-            &[],
+            b"rule a proto any has \"[`\" nocase",
+            1,
+            b"{`[`[@",
+            &[(0, 2)],
         ),
+        // Each pattern has to stand somewhere, in any order; the first one's place is told.
         (
-            b"rule greet proto udp dport 54 has \"hello\"",
-            17,
-            HELLO,
-            &[],
-        ),
-        (
-            b"rule greet proto any dport 53 has \"hello\"",
+            b"rule a proto any has \"lo\" has \"he\" has \"l\" from 11",
             1,
             HELLO,
-            &[],
+            &[(0, 11)],
         ),
+        (b"rule a proto any has \"lo\" has \"hex\"", 1, HELLO, &[]),
+        // The last places of a payload, and a payload of no bytes.
         (
-            b"rule greet proto udp dport 13568 has \"hello\"",
-            17,
-            HELLO,
-            &[],
-        ),
-        (
-            b"rule seam proto icmp has \"ghij\"",
-            1,
-            b"abcdefghijkl",
-            &[(0, 6)],
-        ),
-        (
-            b"rule two proto icmp has \"XXXX\"\nrule one proto icmp has \"ijkl\"",
+            b"rule a proto icmp has \"qrst\"\nrule b proto icmp has \"t\"\nrule c proto icmp has \"u\"",
             1,
             b"abcdefghijklmnopqrst",
-            &[(1, 8)],
+            &[(0, 16), (1, 19)],
         ),
     ];
     for (number, (text, protocol, payload, want)) in cases.iter().enumerate() {
-        let header = Header {
-            source: 0x0a00_0001,
-            destination: 0xc000_0201,
-            protocol: *protocol,
-        };
-        let found = findings_of(alloc, &rules(alloc, text)?, &header, payload)?;
+        let found = findings_of(alloc, &rules(alloc, text)?, &header(*protocol), payload)?;
         assert_eq!(rt; found.as_slice(), *want, "case {number}");
     }
     Ok(())
@@ -184,7 +278,7 @@ fn each_matching_rule_is_found_at_its_least_place(rt: HostRuntime) -> Result<(),
 fn a_rule_has_its_name(rt: HostRuntime) -> Result<(), Fail> {
     let rules = rules(
         rt.alloc(),
-        b"rule one proto icmp has \"ijkl\"\nrule two proto icmp has \"XXXX\"",
+        b"# two\nrule one proto icmp has \"ijkl\"\n\nrule two proto icmp has \"XXXX\"",
     )?;
     assert_eq!(rt; rules.len(), 2);
     assert_eq!(rt; rules.name(1), b"two".as_slice());
@@ -201,11 +295,7 @@ fn a_protocol_that_no_rule_asks_for_is_told(rt: HostRuntime) -> Result<(), Fail>
     let any = rules(alloc, b"rule one proto any has \"ijkl\"")?;
     let none = rules(alloc, b"")?;
     for (protocol, want) in [(1, [true, true]), (17, [true, true]), (6, [false, true])] {
-        let header = Header {
-            source: 0x0a00_0001,
-            destination: 0xc000_0201,
-            protocol,
-        };
+        let header = header(protocol);
         assert_eq!(rt;
             [any_asks_for(&some, &header), any_asks_for(&any, &header)],
             want

@@ -4,7 +4,9 @@ use Rattle.std.specs.Prelude.{if◌then◌else◌, IfSome, All, AllPairs}
 use Rattle.std.proofs.lemmas.List.Elements.{All-nil, All-cons}
 use Rattle.capture_terms.specs.declared.datagram.Header.{Header}
 use Rattle.rule_terms.specs.Rule.{Pattern, Rule}
-use Rattle.rule_terms.specs.Match.{is_for, place_of, IsLeastPlace, finding_of, numbered, findings_from}
+use Rattle.std.specs.Prelude.{◌&&◌}
+use Rattle.std.specs.List.{list_all}
+use Rattle.rule_terms.specs.Match.{is_for, is_there, place_of, IsLeastPlace, finding_of, numbered, findings_from}
 use Rattle.rule_terms.proofs.Least.{least_place}
 
 -- the finding of an earlier rule
@@ -50,7 +52,7 @@ finding_if false size r fits = tt
 pub finding_fits : (rule : Rule) (header : Header) (payload : List ℕ) → IfSome (finding_of rule header payload) (λ place. place ≤ length payload)
 unfolding finding_of
 finding_fits rule header payload =
-    finding_if (is_for rule header payload) (length payload) (place_of rule.first payload) (least_fits rule.first payload (place_of rule.first payload) (least_place rule.first payload))
+    finding_if (is_for rule header payload && list_all (is_there payload) rule.others) (length payload) (place_of rule.first payload) (least_fits rule.first payload (place_of rule.first payload) (least_place rule.first payload))
 
 pub in_order : (n end : ℕ) (rules : List Rule) (header : Header) (payload : List ℕ) → n + length rules ≤ end → AreInOrder n end (length payload) (findings_from n rules header payload)
 unfolding findings_from

@@ -5,8 +5,11 @@ use Rattle.std.specs.Fmt.{decimal}
 use Rattle.std.proofs.lemmas.Fmt.{decimal_by_steps, decimal_digit, decimal_step, first_decimal, decimal_nonempty}
 use Rattle.std.proofs.lemmas.Bool.{leb-true, ltb-true, eqb-true, le-leb, lt-ltb, ne_eqb, eq-eqb, and_from, and_parts, or_from, or_parts, false_from_ne_true, cases_Bool, cases_eq, cond-true, cond-false}
 use Rattle.std.proofs.lemmas.List.{append-nil}
-use Rattle.rule_terms.proofs.Tokens.{HasNoSpace, no_space_more}
-use Rattle.rule_terms.specs.Grammar.{is_digit, digits_from, number_of}
+use Rattle.std.specs.List.{list_all}
+use Rattle.rule_terms.proofs.Tokens.{IsWord, is_no_blank}
+use Rattle.rule_terms.specs.Grammar.{is_digit}
+use Rattle.rule_terms.specs.Words.{is_blank}
+use Rattle.rule_terms.specs.Reader.{digits_from, number_of}
 
 -- a digit goes on with the number
 digit_next : (n d : ℕ) (cs : List ℕ) → d < 10 → 10 * n + d ≤ 65535 → digits_from n ((48 + d) ∷ cs) ≡ digits_from (10 * n + d) cs
@@ -113,5 +116,21 @@ number_back (c ∷ cs) n is =
     let digit = and_parts (nat_le 48 c) (nat_le c 57) parts.0 in
     first_digit c n cs (leb-true 48 c digit.0) (leb-true c 57 digit.1) inner.1 off
 
-pub decimal_no_space : (n : ℕ) → n < 2 ^ 64 → HasNoSpace (decimal n)
-decimal_no_space n fits = decimal_by_steps (λ (k : ℕ) (ds : List ℕ). HasNoSpace ds) (λ k small. (ne_eqb (48 + k) 32 (λ e. absurd (omega arith)), tt)) (λ k ds large before. no_space_more ds (48 + k % 10) before (ne_eqb (48 + k % 10) 32 (λ e. absurd (omega arith)))) n fits
+digit_no_blank : (k : ℕ) → is_no_blank (48 + k) ≡ true
+digit_no_blank k =
+    let space : eqb (48 + k) 32 ≡ false = ne_eqb (48 + k) 32 (λ e. absurd (omega arith)) in
+    let tab : eqb (48 + k) 9 ≡ false = ne_eqb (48 + k) 9 (λ e. absurd (omega arith)) in
+    rw (space, tab)
+
+word_more : (ds : List ℕ) (d : ℕ) → IsWord ds → is_no_blank d ≡ true → IsWord (ds ++ d ∷ [])
+word_more [] d word last = absurd word
+word_more (c ∷ ds) d word last = all_more (c ∷ ds) word
+  where
+    all_more : (cs : List ℕ) → list_all is_no_blank cs ≡ true → list_all is_no_blank (cs ++ d ∷ []) ≡ true
+    all_more [] all = and_from _ _ last refl
+    all_more (b ∷ cs) all =
+        let parts = and_parts (is_no_blank b) (list_all is_no_blank cs) all in
+        and_from _ _ parts.0 (all_more cs parts.1)
+
+pub decimal_word : (n : ℕ) → n < 2 ^ 64 → IsWord (decimal n)
+decimal_word n fits = decimal_by_steps (λ (k : ℕ) (ds : List ℕ). IsWord ds) (λ k small. and_from _ _ (digit_no_blank k) refl) (λ k ds large before. word_more ds (48 + k % 10) before (digit_no_blank (k % 10))) n fits

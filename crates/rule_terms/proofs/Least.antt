@@ -1,71 +1,76 @@
 -- The place that is reported is the least one.
-use Rattle.std.proofs.Common.{◌≡◌, ℕ, zero, suc, ◌+◌, Bool, true, false, List, [], ◌∷◌, length, take, Option, Some, None, refl, ap, arith, subst, length-take}
-use Rattle.std.specs.Prelude.{MatchOption, if◌then◌else◌}
+use Rattle.std.proofs.Common.{◌≡◌, ℕ, zero, suc, ◌+◌, ◌<◌, ◌≤◌, Bool, true, false, List, length, Option, Some, None, refl, sym, ap, arith, subst, inl, inr}
+use Rattle.std.specs.Prelude.{MatchOption, IfSome, ◌&&◌, nat_le}
+use Rattle.std.specs.Str.{bytes_eq}
 use Rattle.std.proofs.lemmas.Slice.Eq.{bytes_eq-Decides}
+use Rattle.std.proofs.lemmas.Bool.{and_parts, and_from, leb-true, le-leb, cases_lt}
 use Rattle.rule_terms.specs.Rule.{Pattern}
-use Rattle.rule_terms.specs.Match.{begins_with, place_from, place_of, StandsAt, NoneBelow, IsLeastPlace}
+use Rattle.rule_terms.specs.Match.{compared, bytes_at, is_from, is_to, stands_at, least_below, or_else, place_of, StandsAt, NoneBelow, IsLeastPlace}
 
--- the least place of these bytes, which begin at place p
-abbrev pub IsPlace : ℕ → Pattern → List ℕ → Option ℕ → Type 0
-IsPlace p pattern bytes r =
-    MatchOption r ((place : ℕ) → ¬ StandsAt pattern bytes place) (λ q. (k : ℕ) × (q ≡ p + k) × StandsAt pattern bytes k × NoneBelow pattern bytes k)
+-- no number below the end passes the test
+abbrev NonePasses : (ℕ → Bool) → ℕ → Type 0
+NonePasses test end = (k : ℕ) → k < end → test k ≡ true → ⊥
 
-stands_in_front : (pattern : Pattern) (bytes : List ℕ) → begins_with pattern bytes ≡ true → StandsAt pattern bytes 0
-stands_in_front pattern bytes begins =
-    let same : take (length pattern.bytes) bytes ≡ pattern.bytes = (bytes_eq-Decides (take (length pattern.bytes) bytes) pattern.bytes).0 begins in
-    record { fits = omega (arith, ap length same, length-take (length pattern.bytes) bytes); same = same }
+abbrev IsLeastBelow : (ℕ → Bool) → ℕ → Option ℕ → Type 0
+IsLeastBelow test n r = MatchOption r (NonePasses test n) (λ p. (p < n) × (test p ≡ true) × NonePasses test p)
 
-begins_in_front : (pattern : Pattern) (bytes : List ℕ) → StandsAt pattern bytes 0 → begins_with pattern bytes ≡ true
-begins_in_front pattern bytes stands = (bytes_eq-Decides (take (length pattern.bytes) bytes) pattern.bytes).1 stands.same
+one_more : (test : ℕ → Bool) (n : ℕ) (r : Option ℕ) (b : Bool) → test n ≡ b → IsLeastBelow test n r → IsLeastBelow test (suc n) (or_else r b n)
+one_more test n (Some p) b is least = (omega (arith, least.0), least.1, least.2)
+one_more test n None true is none = (omega arith, is, none)
+one_more test n None false is none = λ k below passes. elim (cases_lt k n) [
+  | inl lt ↦ none k lt passes
+  | inr ge ↦
+      let here : k ≡ n = omega arith in
+      cc (ap test here)
+]
 
-stands_later : (pattern : Pattern) (b : ℕ) (bytes : List ℕ) (k : ℕ) → StandsAt pattern bytes k → StandsAt pattern (b ∷ bytes) (suc k)
-stands_later pattern b bytes k stands = record { fits = omega (arith, stands.fits); same = stands.same }
+least_is : (test : ℕ → Bool) (n : ℕ) → IsLeastBelow test n (least_below test n)
+unfolding least_below
+least_is test zero = λ k below passes. absurd (omega arith)
+least_is test (suc n) = one_more test n (least_below test n) (test n) refl (least_is test n)
 
-stands_earlier : (pattern : Pattern) (b : ℕ) (bytes : List ℕ) (k : ℕ) → StandsAt pattern (b ∷ bytes) (suc k) → StandsAt pattern bytes k
-stands_earlier pattern b bytes k stands = record { fits = omega (arith, stands.fits); same = stands.same }
+from_so : (from : Option ℕ) (place : ℕ) → is_from from place ≡ true → IfSome from (λ low. low ≤ place)
+from_so None place is = tt
+from_so (Some low) place is = leb-true low place is
 
-not_in_front : (pattern : Pattern) (bytes : List ℕ) → begins_with pattern bytes ≡ false → ¬ StandsAt pattern bytes 0
-not_in_front pattern bytes off stands = cc (off, begins_in_front pattern bytes stands)
+from_test : (from : Option ℕ) (place : ℕ) → IfSome from (λ low. low ≤ place) → is_from from place ≡ true
+from_test None place is = refl
+from_test (Some low) place is = le-leb low place is
 
-nowhere_empty : (pattern : Pattern) → begins_with pattern [] ≡ false → (place : ℕ) → ¬ StandsAt pattern [] place
-nowhere_empty pattern off zero stands = not_in_front pattern [] off stands
-nowhere_empty pattern off (suc place) stands = absurd (omega (arith, stands.fits))
+to_so : (to : Option ℕ) (end : ℕ) → is_to to end ≡ true → IfSome to (λ high. end ≤ high)
+to_so None end is = tt
+to_so (Some high) end is = leb-true end high is
 
-nowhere_later : (pattern : Pattern) (b : ℕ) (bytes : List ℕ) → begins_with pattern (b ∷ bytes) ≡ false → ((place : ℕ) → ¬ StandsAt pattern bytes place) → (place : ℕ) → ¬ StandsAt pattern (b ∷ bytes) place
-nowhere_later pattern b bytes off none zero stands = not_in_front pattern (b ∷ bytes) off stands
-nowhere_later pattern b bytes off none (suc place) stands = none place (stands_earlier pattern b bytes place stands)
+to_test : (to : Option ℕ) (end : ℕ) → IfSome to (λ high. end ≤ high) → is_to to end ≡ true
+to_test None end is = refl
+to_test (Some high) end is = le-leb end high is
 
-none_below_later : (pattern : Pattern) (b : ℕ) (bytes : List ℕ) (k : ℕ) → begins_with pattern (b ∷ bytes) ≡ false → NoneBelow pattern bytes k → NoneBelow pattern (b ∷ bytes) (suc k)
-none_below_later pattern b bytes k off none zero below stands = not_in_front pattern (b ∷ bytes) off stands
-none_below_later pattern b bytes k off none (suc place) below stands = none place (omega arith) (stands_earlier pattern b bytes place stands)
+pub stands : (pattern : Pattern) (payload : List ℕ) (place : ℕ) → stands_at pattern payload place ≡ true → StandsAt pattern payload place
+unfolding stands_at
+stands pattern payload place is =
+    let a = and_parts (is_from pattern.from place && is_to pattern.to (place + length pattern.bytes) && nat_le (place + length pattern.bytes) (length payload)) _ is in
+    let b = and_parts (is_from pattern.from place && is_to pattern.to (place + length pattern.bytes)) _ a.0 in
+    let c = and_parts (is_from pattern.from place) _ b.0 in
+    record {
+      from = from_so pattern.from place c.0;
+      to = to_so pattern.to _ c.1;
+      fits = leb-true _ _ b.1;
+      same = (bytes_eq-Decides (compared pattern.nocase (bytes_at pattern payload place)) (compared pattern.nocase pattern.bytes)).0 a.1;
+    }
 
-place_here : (p : ℕ) (pattern : Pattern) (bytes : List ℕ) → begins_with pattern bytes ≡ true → IsPlace p pattern bytes (Some p)
-place_here p pattern bytes begins = (0, omega arith, stands_in_front pattern bytes begins, λ place below. absurd (omega arith))
+pub stands_test : (pattern : Pattern) (payload : List ℕ) (place : ℕ) → StandsAt pattern payload place → stands_at pattern payload place ≡ true
+unfolding stands_at
+stands_test pattern payload place is =
+    let from : is_from pattern.from place ≡ true = from_test pattern.from place is.from in
+    let to : is_to pattern.to (place + length pattern.bytes) ≡ true = to_test pattern.to _ is.to in
+    let fits : nat_le (place + length pattern.bytes) (length payload) ≡ true = le-leb _ _ is.fits in
+    let same : bytes_eq (compared pattern.nocase (bytes_at pattern payload place)) (compared pattern.nocase pattern.bytes) ≡ true = (bytes_eq-Decides _ _).1 is.same in
+    and_from _ _ (and_from _ _ (and_from _ _ from to) fits) same
 
-place_later : (p : ℕ) (pattern : Pattern) (b : ℕ) (bytes : List ℕ) (r : Option ℕ) → begins_with pattern (b ∷ bytes) ≡ false → IsPlace (p + 1) pattern bytes r → IsPlace p pattern (b ∷ bytes) r
-place_later p pattern b bytes None off none = nowhere_later pattern b bytes off none
-place_later p pattern b bytes (Some q) off found =
-    (suc found.0, omega (arith, found.1), stands_later pattern b bytes found.0 found.2, none_below_later pattern b bytes found.0 off found.3)
-
-last_place : (p : ℕ) (pattern : Pattern) (t : Bool) → begins_with pattern [] ≡ t → IsPlace p pattern [] (if t then Some p else None)
-last_place p pattern true begins = place_here p pattern [] begins
-last_place p pattern false off = nowhere_empty pattern off
-
-next_place : (p : ℕ) (pattern : Pattern) (b : ℕ) (bytes : List ℕ) (t : Bool) → begins_with pattern (b ∷ bytes) ≡ t → IsPlace (p + 1) pattern bytes (place_from (p + 1) pattern bytes) → IsPlace p pattern (b ∷ bytes) (if t then Some p else place_from (p + 1) pattern bytes)
-next_place p pattern b bytes true begins later = place_here p pattern (b ∷ bytes) begins
-next_place p pattern b bytes false off later = place_later p pattern b bytes (place_from (p + 1) pattern bytes) off later
-
-is_place : (p : ℕ) (pattern : Pattern) (bytes : List ℕ) → IsPlace p pattern bytes (place_from p pattern bytes)
-unfolding place_from
-is_place p pattern [] = last_place p pattern (begins_with pattern []) refl
-is_place p pattern (b ∷ bytes) = next_place p pattern b bytes (begins_with pattern (b ∷ bytes)) refl (is_place (p + 1) pattern bytes)
-
-from_front : (pattern : Pattern) (payload : List ℕ) (r : Option ℕ) → IsPlace 0 pattern payload r → IsLeastPlace pattern payload r
-from_front pattern payload None none = none
-from_front pattern payload (Some q) found =
-    let here : found.0 ≡ q = omega (arith, found.1) in
-    let P : ℕ → Type 0 = λ place. StandsAt pattern payload place × NoneBelow pattern payload place in
-    subst P here (found.2, found.3)
+place_from : (pattern : Pattern) (payload : List ℕ) (r : Option ℕ) → IsLeastBelow (stands_at pattern payload) (length payload + 1) r → IsLeastPlace pattern payload r
+place_from pattern payload None none = λ place is. none place (omega (arith, is.fits)) (stands_test pattern payload place is)
+place_from pattern payload (Some p) least = (stands pattern payload p least.1, λ place below is. least.2 place below (stands_test pattern payload place is))
 
 pub least_place : (pattern : Pattern) (payload : List ℕ) → IsLeastPlace pattern payload (place_of pattern payload)
-least_place pattern payload = from_front pattern payload (place_of pattern payload) (is_place 0 pattern payload)
+unfolding place_of
+least_place pattern payload = place_from pattern payload _ (least_is (stands_at pattern payload) (length payload + 1))

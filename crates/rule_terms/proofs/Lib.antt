@@ -1,5 +1,7 @@
-pub mod Least
-pub mod Ascending
-pub mod Decimals
-pub mod Tokens
-pub mod WrittenLines
+mod Least
+mod Ascending
+mod Tokens
+mod Decimals
+mod PatternTexts
+mod RuleLines
+mod Readings

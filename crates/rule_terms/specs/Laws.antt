@@ -1,9 +1,19 @@
 -- What holds of rule texts and of findings, whatever they are.
-use Rattle.std.specs.Prelude.{◌≡◌, ℕ, ◌≤◌, ◌<◌, List, length, All, AllPairs}
+use Rattle.std.specs.Prelude.{◌≡◌, ◌↔◌, ℕ, ◌≤◌, ◌<◌, List, length, Some, All, AllPairs}
 use Rattle.capture_terms.specs.declared.datagram.Header.{Header}
 use Rattle.rule_terms.specs.Rule.{Pattern, Rule}
-use Rattle.rule_terms.specs.RuleText.{IsRuleText}
+use Rattle.rule_terms.specs.Grammar.{IsRuleLine}
+use Rattle.rule_terms.specs.Reader.{read_rule}
+use Rattle.rule_terms.specs.RuleText.{IsRuleText, Reading, IsReadingOf}
 use Rattle.rule_terms.specs.Match.{place_of, IsLeastPlace, findings_of}
+
+-- a line reads as a rule exactly where its words are the rule
+abbrev pub LinesReadAsWritten : Type 0
+LinesReadAsWritten = (line : List ℕ) (rule : Rule) → (read_rule line ≡ Some rule) ↔ IsRuleLine line rule
+
+-- the reading of a text ends in one way only
+abbrev pub TextHasOneReading : Type 0
+TextHasOneReading = (text : List ℕ) (one other : Reading) → IsReadingOf text one → IsReadingOf text other → one ≡ other
 
 -- a text is one list of rules only
 abbrev pub RuleTextIsOne : Type 0

@@ -1,16 +1,13 @@
-use Rattle.std.proofs.Common.{◌≤◌, length}
-use Rattle.std.specs.Prelude.{AllPairs}
-use Rattle.rule_terms.specs.RuleText.{AreNamedApart}
+use Rattle.std.proofs.Common.{◌≤◌, ◌+◌, length}
 use Rattle.rule_matcher.specs.Names.{AreNamesOf}
 use Rattle.rule_matcher.proofs.Lines.{Reads}
 use Rattle.rule_matcher.proofs.reading.rules.Given as goal
 
 abbrev pub invariant-loop-rest : goal.invariant-loop-rest
 invariant-loop-rest l = record {
-  reads : Reads l.text l.rest l.rules.items;
-  apart : AllPairs AreNamedApart l.rules.items;
+  reads : Reads l.text l.rest l.number l.rules.items;
   names : AreNamesOf l.names l.rules.items;
-  few : length l.rules.items ≤ 1024;
+  short : l.number + length l.rest ≤ length l.text;
 }
 
 abbrev pub decreases-loop-rest : goal.decreases-loop-rest
