@@ -6,3 +6,5 @@ mod Ends
 mod Places
 mod LinesRead
 mod Others
+mod Filters
+mod InSight

@@ -1,8 +1,10 @@
 // What the rules find in a datagram.
-ghost use Rattle.std.specs.Prelude.{◌≡◌, ℕ, ◌+◌, ◌<◌, ◌≤◌, ◌++◌, List, [], false, true, length, IfOk, OnOk, IfSome};
+ghost use Rattle.std.specs.Prelude.{◌≡◌, ℕ, ◌+◌, ◌<◌, ◌≤◌, ◌++◌, List, [], false, true, length, IfOk, OnOk, IfSome, IsTrue};
 ghost use Rattle.std.specs.List.{list_any, list_all};
 ghost use Rattle.rule_terms.specs.Match as term;
 ghost use Rattle.rule_terms.specs.Rule as rule_term;
+ghost use Rattle.rule_matcher.specs.Filter.{lowers, rule_lowers};
+ghost use Rattle.rule_matcher.specs.Sights.{IsSightOf, IsSightFor, HasMarkAt, IsUnseen};
 
 use crate::lowered::lowered_copy;
 use crate::rule_list::{Pattern, Rule, Rules};
@@ -14,6 +16,15 @@ use std::alloc::{AllocError, Global};
 const TCP: u8 = 6;
 
 const UDP: u8 = 17;
+
+const FEW: u32 = 4;
+
+/// The mark of each rule, and which marks were seen in a payload.
+#[derive(Clone, Copy, Debug)]
+struct Sight<'a> {
+    marks: &'a [u16],
+    seen: &'a [bool],
+}
 
 /// The rules that match a datagram of this header and payload, by number from 0 and in ascending
 /// order, each with the least place at which its first pattern stands in the payload. The payload has
@@ -27,8 +38,39 @@ pub fn findings_of(
     requires { length payload.now ≤ 65535 }
     ensures findings { IfOk result (λ found. found.items ≡ term.findings_of rules.now header.now payload.now) }
 {
-    let lowered = lowered_copy(alloc, payload)?;
-    found_by(alloc, rules.as_slice(), header, payload, &lowered)
+    if rules.folds() {
+        let lowered = lowered_copy(alloc, payload)?;
+        found_in(alloc, rules, header, payload, &lowered)
+    } else {
+        found_in(alloc, rules, header, payload, payload)
+    }
+}
+
+// Few rules are looked for one by one, since a filter costs as much as some three searches.
+fn found_in(
+    alloc: Global,
+    rules: &Rules,
+    header: &Header,
+    payload: &[u8],
+    lowered: &[u8],
+) -> Result<Vec<(u16, u16)>, AllocError>
+    requires short { length payload.now ≤ 65535 }
+    requires lowered { list_any rule_lowers rules.now ≡ true → lowered.now ≡ term.compared true payload.now }
+    ensures { IfOk result (λ found. found.items ≡ term.findings_of rules.now header.now payload.now) }
+{
+    if rules.len() < FEW {
+        return found_by(alloc, rules.as_slice(), header, payload, lowered, None);
+    }
+    let (seen, marks) = rules.marks_seen(payload);
+    let sight = Sight { marks, seen: &seen };
+    found_by(
+        alloc,
+        rules.as_slice(),
+        header,
+        payload,
+        lowered,
+        Some(sight),
+    )
 }
 
 /// Whether some rule looks into datagrams of this header, as far as its protocol tells. Where none
@@ -48,25 +90,59 @@ fn any_has_protocol(rules: &[Rule], protocol: u8) -> bool
         .any(|rule| has_protocol(rule.protocol, protocol))
 }
 
-// The payload comes twice: as it is, and with its letters in lower case.
+// The payload comes twice: as it is, and, where some pattern is compared so, with its letters in lower
+// case.
 fn found_by(
     alloc: Global,
     rules: &[Rule],
     header: &Header,
     payload: &[u8],
     lowered: &[u8],
+    sight: Option<Sight<'_>>,
 ) -> Result<Vec<(u16, u16)>, AllocError>
     requires few { length rules.now ≤ 1024 }
     requires short { length payload.now ≤ 65535 }
-    requires lowered { lowered.now ≡ term.compared true payload.now }
+    requires lowered { list_any rule_lowers rules.now ≡ true → lowered.now ≡ term.compared true payload.now }
+    requires sight { IfSome sight (λ sight. IsSightOf sight rules.now payload.now) }
     ensures { IfOk result (λ found. found.items ≡ term.findings_of rules.now header.now payload.now) }
 {
     let mut found = Vec::new(alloc);
     for (number, rule) in rules.iter().enumerate() {
-        let place = finding(rule, header, payload, lowered);
+        let place = place_in_sight(sight, number, rule, header, payload, lowered);
         add(&mut found, number as u16, place)?;
     }
     Ok(found)
+}
+
+// The place of the finding of the rule of this number. A rule that the sight rules out costs no search.
+fn place_in_sight(
+    sight: Option<Sight<'_>>,
+    number: usize,
+    rule: &Rule,
+    header: &Header,
+    payload: &[u8],
+    lowered: &[u8],
+) -> Option<u16>
+    requires short { length payload.now ≤ 65535 }
+    requires lowered { rule_lowers rule.now ≡ true → lowered.now ≡ term.compared true payload.now }
+    requires sight { IfSome sight (λ sight. IsSightFor sight number rule.now payload.now) }
+    ensures { result ≡ term.finding_of rule.now header.now payload.now }
+{
+    if let Some(sight) = sight {
+        if is_ruled_out(sight, number) {
+            return None;
+        }
+    }
+    finding(rule, header, payload, lowered)
+}
+
+// Whether the rule of this number has a mark that wasn't seen.
+fn is_ruled_out(sight: Sight<'_>, number: usize) -> bool
+    requires { HasMarkAt sight number }
+    ensures { IsTrue result → IsUnseen sight.entry number }
+{
+    let mark = sight.marks[number];
+    mark != 0 && !sight.seen[usize::from(mark)]
 }
 
 fn add(found: &mut Vec<(u16, u16)>, number: u16, place: Option<u16>) -> Result<(), AllocError>
@@ -82,7 +158,7 @@ fn add(found: &mut Vec<(u16, u16)>, number: u16, place: Option<u16>) -> Result<(
 #[tactic(auto, unfolding(rule_terms::specs::Match::finding_of))]
 fn finding(rule: &Rule, header: &Header, payload: &[u8], lowered: &[u8]) -> Option<u16>
     requires short { length payload.now ≤ 65535 }
-    requires lowered { lowered.now ≡ term.compared true payload.now }
+    requires lowered { rule_lowers rule.now ≡ true → lowered.now ≡ term.compared true payload.now }
     ensures { result ≡ term.finding_of rule.now header.now payload.now }
 {
     if looks_into(rule, header, payload) && are_there(&rule.others, payload, lowered) {
@@ -128,18 +204,19 @@ fn has_port(wanted: Option<u16>, at: usize, protocol: u8, payload: &[u8]) -> boo
 }
 
 fn are_there(patterns: &[Pattern], payload: &[u8], lowered: &[u8]) -> bool
-    requires { lowered.now ≡ term.compared true payload.now }
+    requires { list_any lowers patterns.now ≡ true → lowered.now ≡ term.compared true payload.now }
     ensures { result ≡ list_all (term.is_there payload.now) patterns.now }
 {
-    patterns.iter().all(
-        |pattern|
-            requires { lowered.now ≡ term.compared true payload.now }
-        { place(pattern, payload, lowered).is_some() },
-    )
+    for pattern in patterns {
+        if place(pattern, payload, lowered).is_none() {
+            return false;
+        }
+    }
+    true
 }
 
 fn place(pattern: &Pattern, payload: &[u8], lowered: &[u8]) -> Option<usize>
-    requires { lowered.now ≡ term.compared true payload.now }
+    requires { pattern.now.nocase ≡ true → lowered.now ≡ term.compared true payload.now }
     ensures place { result ≡ term.place_of pattern.now payload.now }
     ensures within { IfSome result (λ place. place ≤ length payload.now) }
 {

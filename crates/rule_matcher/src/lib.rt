@@ -5,6 +5,7 @@
 //! `rule_terms`.
 #![tactic(auto)]
 
+mod filter;
 mod findings;
 mod line;
 mod lowered;

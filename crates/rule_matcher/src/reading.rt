@@ -39,7 +39,10 @@ pub fn rules(alloc: Global, text: &[u8]) -> Result<Rules, RulesEnd>
         }
         rest = behind;
     }
-    Ok(Rules::new(rules))
+    match Rules::new(alloc, rules) {
+        Ok(rules) => Ok(rules),
+        Err(_) => Err(RulesEnd::Memory),
+    }
 }
 
 // Reads one line, of this number, behind others that gave these rules.

@@ -1,9 +1,12 @@
 // Rules as they are kept: each type is seen as what `rule_terms` calls by its name.
-ghost use Rattle.std.specs.Prelude.{◌≡◌, ℕ, ◌<◌, ◌≤◌, List, IfOk, IfSome, length, vec_len};
+ghost use Rattle.std.specs.Prelude.{◌≡◌, ℕ, ◌<◌, ◌≤◌, List, IfOk, IfSome, length, slice_index, vec_len};
 ghost use Rattle.rule_terms.specs.Match as match_term;
 ghost use Rattle.rule_matcher.specs.Bounds.{low_of, high_of};
+ghost use Rattle.rule_matcher.specs.Filter.{RulesOut, lowers, rule_lowers};
+ghost use Rattle.std.specs.List.{list_any};
 ghost use Rattle.rule_terms.specs.RuleText.{name_at};
 
+use crate::filter::{MARKS, SLOTS, empty_table, mark_rules, marks_in};
 use crate::lowered::compared;
 use memchr::memmem::{Finder, FinderBuilder};
 use rule_terms::places_are_least;
@@ -51,6 +54,13 @@ impl Pattern {
             to,
             finder,
         })
+    }
+
+    /// The bytes as they are written.
+    pub(crate) fn bytes(&self) -> &[u8]
+        ensures { result.now ≡ self.now.bytes }
+    {
+        &self.bytes
     }
 
     /// Whether upper case and lower case of a letter count as one.
@@ -116,17 +126,23 @@ impl Model for Rule {
 #[derive(Drop)]
 pub struct Rules {
     rules: Vec<Rule>,
+    // Which rules a payload rules out, as `filter` has it.
+    table: Vec<u16>,
+    marks: Vec<u16>,
+    // Whether some pattern is looked for in the payload in lower case.
+    folds: bool,
 }
 
 impl Model for Rules {
     ghost use Rattle.std.specs.Prelude.{List, ◌≤◌, vec_len};
     ghost use Rattle.rule_terms.specs.Rule as term;
+    ghost use Rattle.rule_matcher.specs.Filter.{IsIndexed};
 
     ghost Value = { List term.Rule };
 
     ghost view = { λ r. r.rules.items };
 
-    ghost invariant = { λ r. vec_len r.rules ≤ 1024 };
+    ghost invariant = { λ r. (vec_len r.rules ≤ 1024) × IsIndexed r.rules.items r.table.items r.marks.items r.folds };
 }
 
 /// Why a text gave no rules.
@@ -142,11 +158,19 @@ pub enum RulesEnd {
 }
 
 impl Rules {
-    pub(crate) fn new(rules: Vec<Rule>) -> Rules
+    pub(crate) fn new(alloc: Global, rules: Vec<Rule>) -> Result<Rules, AllocError>
         requires { vec_len rules ≤ 1024 }
-        ensures { result ≡ rules.items }
+        ensures { IfOk result (λ made. made ≡ rules.items) }
     {
-        Rules { rules }
+        let mut table = empty_table(alloc, SLOTS)?;
+        let marks = mark_rules(alloc, &mut table, &rules)?;
+        let folds = any_lowers(&rules);
+        Ok(Rules {
+            rules,
+            table,
+            marks,
+            folds,
+        })
     }
 
     /// How many rules there are.
@@ -172,4 +196,40 @@ impl Rules {
     {
         self.rules.as_slice()
     }
+
+    /// Whether some pattern is looked for in the payload in lower case.
+    pub(crate) fn folds(&self) -> bool
+        ensures { result ≡ list_any rule_lowers self.now }
+    {
+        self.folds
+    }
+
+    /// The marks that were seen in a payload: a rule that has one, which isn't among them, finds nothing.
+    pub(crate) fn marks_seen(&self, payload: &[u8]) -> ([bool; MARKS], &[u16])
+        requires { length payload.now ≤ 65535 }
+        ensures out { RulesOut result.1.now result.0 self.now payload.now }
+        ensures count { length result.1.now ≡ length self.now }
+        ensures small { (k : ℕ) → slice_index result.1.now k ≤ 1024 }
+    {
+        places_are_least();
+        (marks_in(&self.table, payload), &self.marks)
+    }
+}
+
+fn any_lowers(rules: &[Rule]) -> bool
+    ensures { result ≡ list_any rule_lowers rules.now }
+{
+    rules.iter().any(|rule| rule_has_lowering(rule))
+}
+
+fn rule_has_lowering(rule: &Rule) -> bool
+    ensures { result ≡ rule_lowers rule.now }
+{
+    rule.first.compares_lowered() || any_pattern_lowers(&rule.others)
+}
+
+fn any_pattern_lowers(patterns: &[Pattern]) -> bool
+    ensures { result ≡ list_any lowers patterns.now }
+{
+    patterns.iter().any(|pattern| pattern.compares_lowered())
 }

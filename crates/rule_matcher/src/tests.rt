@@ -18,7 +18,8 @@ fn header(protocol: u8) -> Header {
 }
 
 // How many rules the text has, or why it has none.
-fn count_of(alloc: Global, text: &[u8]) -> Result<u32, RulesEnd> {
+fn count_of(rt: &impl Abort, alloc: Global, text: &[u8]) -> Result<u32, RulesEnd> {
+    assert!(rt; text.len() < 4_294_967_296);
     match rules(alloc, text) {
         Ok(rules) => Ok(rules.len()),
         Err(end) => Err(end),
@@ -27,14 +28,14 @@ fn count_of(alloc: Global, text: &[u8]) -> Result<u32, RulesEnd> {
 
 fn is_accepted(rt: &impl Abort, alloc: Global, texts: &[&[u8]]) {
     for (number, text) in texts.iter().enumerate() {
-        let count = count_of(alloc, text);
+        let count = count_of(rt, alloc, text);
         assert_eq!(rt; count, Ok(1), "text {number}");
     }
 }
 
 fn is_bad(rt: &impl Abort, alloc: Global, texts: &[&[u8]]) {
     for (number, text) in texts.iter().enumerate() {
-        let count = count_of(alloc, text);
+        let count = count_of(rt, alloc, text);
         assert_eq!(rt; count, Err(RulesEnd::Line { number: 1 }), "text {number}");
     }
 }
@@ -69,7 +70,7 @@ fn each_part_of_a_rule_is_read(rt: HostRuntime) {
     ];
     is_accepted(&rt, rt.alloc(), &texts[..23]);
     assert_eq!(rt;
-        count_of(rt.alloc(), texts[23]),
+        count_of(&rt, rt.alloc(), texts[23]),
         Err(RulesEnd::Line { number: 2 })
     );
 }
@@ -159,7 +160,7 @@ fn lines_count_from_1_and_the_first_bad_one_is_told(rt: HostRuntime) {
         ),
     ];
     for (number, (text, want)) in cases.iter().enumerate() {
-        assert_eq!(rt; count_of(rt.alloc(), text), *want, "text {number}");
+        assert_eq!(rt; count_of(&rt, rt.alloc(), text), *want, "text {number}");
     }
 }
 
@@ -178,9 +179,9 @@ fn many_rules(alloc: Global, count: u32) -> Result<Vec<u8>, Fail> {
 #[test]
 fn at_most_1024_rules(rt: HostRuntime) -> Result<(), Fail> {
     let alloc = rt.alloc();
-    assert_eq!(rt; count_of(alloc, &many_rules(alloc, 1024)?), Ok(1024));
+    assert_eq!(rt; count_of(&rt, alloc, &many_rules(alloc, 1024)?), Ok(1024));
     assert_eq!(rt;
-        count_of(alloc, &many_rules(alloc, 1025)?),
+        count_of(&rt, alloc, &many_rules(alloc, 1025)?),
         Err(RulesEnd::TooMany)
     );
     // A line behind the 1,024th rule that is no rule, or one of a name that is taken, is bad.
@@ -191,7 +192,7 @@ fn at_most_1024_rules(rt: HostRuntime) -> Result<(), Fail> {
         let mut text = many_rules(alloc, 1024)?;
         text.extend_from_slice(line)?;
         assert_eq!(rt;
-            count_of(alloc, &text),
+            count_of(&rt, alloc, &text),
             Err(RulesEnd::Line { number: 1025 })
         );
     }
@@ -268,6 +269,7 @@ fn each_matching_rule_is_found_at_its_least_place(rt: HostRuntime) -> Result<(),
         ),
     ];
     for (number, (text, protocol, payload, want)) in cases.iter().enumerate() {
+        assert!(rt; text.len() < 4_294_967_296 && payload.len() <= 65_535);
         let found = findings_of(alloc, &rules(alloc, text)?, &header(*protocol), payload)?;
         assert_eq!(rt; found.as_slice(), *want, "case {number}");
     }

@@ -4,10 +4,10 @@ use Rattle.rule_matcher.proofs.Lines.{reads_none, reads_more, cause_of, whole_te
 use Rattle.rule_matcher.proofs.Named.{no_names}
 use Rattle.rule_matcher.proofs.reading.rules.Goals as goal
 
-pub returns-clause-rules : goal.returns-clause-rules
-returns-clause-rules c =
+pub returns-in-Ok-clause-rules : goal.returns-in-Ok-clause-rules
+returns-in-Ok-clause-rules c =
     let none : length c.loop-rest.rest.now ≡ 0 = grind (arith, common_steps) in
-    rw c.new.ensures (whole_text _ _ _ _ c.loop-rest.invariant.reads none)
+    rw c.in-Ok.ensures (whole_text _ _ _ _ c.loop-rest.invariant.reads none)
 
 pub loop-rest-init : goal.loop-rest-init
 loop-rest-init c =
