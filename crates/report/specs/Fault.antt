@@ -3,7 +3,7 @@
 use Rattle.std.specs.Prelude.{ℕ, List, [], ◌∷◌, ◌++◌, codes}
 use Rattle.std.specs.Fmt.{decimal}
 use Rattle.report.specs.declared.fault.Fault.{Fault}
-use Rattle.report.specs.declared.fault.Fault.TheVariants.{Usage, Read, Write, Rules, Capture, LimitFile, LimitFrames, LimitRules, LimitFindings, Unbuilt, Memory}
+use Rattle.report.specs.declared.fault.Fault.TheVariants.{Usage, Read, Write, Rules, Capture, LimitFile, LimitFrames, LimitRules, LimitFindings, Memory}
 use Rattle.capture_terms.specs.declared.capture.CaptureFault.{CaptureFault}
 use Rattle.capture_terms.specs.declared.capture.CaptureFault.TheVariants.{Header, Version, Link, Record}
 use Rattle.report.specs.declared.fault.Detail.{Detail}
@@ -20,7 +20,6 @@ pub data Cause : Type 0 where
   many_frames : Cause
   many_rules : Cause
   many_findings : Cause
-  unbuilt : List ℕ → Cause
   no_memory : Cause
 
 abbrev pub cause_of : Fault → Cause
@@ -33,7 +32,6 @@ cause_of (LimitFile name) = long_file name.now
 cause_of LimitFrames = many_frames
 cause_of LimitRules = many_rules
 cause_of LimitFindings = many_findings
-cause_of (Unbuilt what) = unbuilt what.now
 cause_of Memory = no_memory
 
 -- the status that the program ends with
@@ -48,7 +46,6 @@ status_of many_frames = 6
 status_of many_rules = 6
 status_of many_findings = 6
 status_of no_memory = 7
-status_of (unbuilt what) = 8
 
 abbrev pub capture_words : CaptureFault → List ℕ
 capture_words (Header at) = codes "header at " ++ decimal at
@@ -67,7 +64,6 @@ words_of (long_file name) = codes "limit: file " ++ name
 words_of many_frames = codes "limit: frames"
 words_of many_rules = codes "limit: rules"
 words_of many_findings = codes "limit: findings"
-words_of (unbuilt what) = codes "unbuilt: " ++ what
 words_of no_memory = codes "want of memory"
 
 -- its line, with the line feed

@@ -24,8 +24,6 @@ pub enum Fault<'a> {
     LimitRules,
     /// There are more findings than a report may have.
     LimitFindings,
-    /// This isn't built yet.
-    Unbuilt(&'a str),
     /// Memory ran out.
     Memory,
 }
@@ -44,7 +42,6 @@ impl Fault<'_> {
             Fault::LimitFile(_) | Fault::LimitFrames | Fault::LimitRules | Fault::LimitFindings =>
                 6,
             Fault::Memory => 7,
-            Fault::Unbuilt(_) => 8,
         }
     }
 }

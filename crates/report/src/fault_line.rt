@@ -73,7 +73,6 @@ fn parts_of<'a>(fault: &Fault<'a>) -> (&'static [u8], Detail<'a>, &'static [u8])
         Fault::LimitFrames => (b"limit: frames", Detail::Text(b""), b"\n"),
         Fault::LimitRules => (b"limit: rules", Detail::Text(b""), b"\n"),
         Fault::LimitFindings => (b"limit: findings", Detail::Text(b""), b"\n"),
-        Fault::Unbuilt(what) => (b"unbuilt: ", Detail::Text(what.as_bytes()), b"\n"),
         Fault::Memory => (b"want of memory", Detail::Text(b""), b"\n"),
     }
 }

@@ -251,7 +251,6 @@ fn each_fault_is_told_by_its_line(rt: HostRuntime) -> Result<(), Fail> {
         (Fault::LimitFrames, "limit: frames\n"),
         (Fault::LimitRules, "limit: rules\n"),
         (Fault::LimitFindings, "limit: findings\n"),
-        (Fault::Unbuilt("rules"), "unbuilt: rules\n"),
         (Fault::Memory, "want of memory\n"),
     ];
     for (fault, line) in &lines {

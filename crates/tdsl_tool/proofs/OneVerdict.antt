@@ -1,23 +1,17 @@
 -- Two files come to one verdict only.
 use Rattle.std.proofs.Common.{◌≡◌, ◌⊎◌, inl, inr, ℕ, List, refl, sym, ◌∙◌, ap, arith}
 use Rattle.capture_terms.specs.Capture.{Answer, IsAnswer}
-use Rattle.rule_terms.specs.Laws.{RuleTextIsOne}
-use Rattle.tdsl_tool.specs.Verdict.{RulesAnswer, some_rules, no_rules, IsRulesAnswer, RuleFile, rule_file_of, RuleFileIsOne, CaptureFile, file_of, IsCaptureFile, VerdictIsOne, verdict_of}
+use Rattle.rule_terms.specs.Laws.{TextHasOneReading}
+use Rattle.tdsl_tool.specs.Verdict.{RuleFile, rule_file_of, RuleFileIsOne, CaptureFile, file_of, IsCaptureFile, VerdictIsOne, verdict_of}
 
 abbrev pub AnswerIsOne : Type 0
 AnswerIsOne = (bytes : List ℕ) (one two : Answer) → IsAnswer bytes one → IsAnswer bytes two → one ≡ two
 
-one_rules_answer : RuleTextIsOne → (text : List ℕ) (one two : RulesAnswer) → IsRulesAnswer text one → IsRulesAnswer text two → one ≡ two
-one_rules_answer law text (some_rules rules) (some_rules others) p q = ap some_rules (law text rules others p q)
-one_rules_answer law text (some_rules rules) no_rules p q = absurd (q rules p)
-one_rules_answer law text no_rules (some_rules rules) p q = absurd (p rules q)
-one_rules_answer law text no_rules no_rules p q = refl
-
-pub rule_file_is_one : RuleTextIsOne → RuleFileIsOne
+pub rule_file_is_one : TextHasOneReading → RuleFileIsOne
 rule_file_is_one law name text one two (inl p) (inl q) = p.1 ∙ sym q.1
 rule_file_is_one law name text one two (inl p) (inr q) = absurd (omega (arith, p.0, q.1.short))
 rule_file_is_one law name text one two (inr p) (inl q) = absurd (omega (arith, p.1.short, q.0))
-rule_file_is_one law name text one two (inr p) (inr q) = p.2 ∙ ap rule_file_of (one_rules_answer law text p.0 q.0 p.1.right q.1.right) ∙ sym q.2
+rule_file_is_one law name text one two (inr p) (inr q) = p.2 ∙ ap rule_file_of (law text p.0 q.0 p.1.right q.1.right) ∙ sym q.2
 
 one_capture_file : AnswerIsOne → (name bytes : List ℕ) (one two : CaptureFile) → IsCaptureFile name bytes one → IsCaptureFile name bytes two → one ≡ two
 one_capture_file law name bytes one two (inl p) (inl q) = p.1 ∙ sym q.1
@@ -25,7 +19,7 @@ one_capture_file law name bytes one two (inl p) (inr q) = absurd (omega (arith, 
 one_capture_file law name bytes one two (inr p) (inl q) = absurd (omega (arith, p.1.short, q.0))
 one_capture_file law name bytes one two (inr p) (inr q) = p.2 ∙ ap file_of (law bytes p.0 q.0 p.1.right q.1.right) ∙ sym q.2
 
-pub verdict_is_one : RuleTextIsOne → AnswerIsOne → VerdictIsOne
+pub verdict_is_one : TextHasOneReading → AnswerIsOne → VerdictIsOne
 verdict_is_one rules_law answer_law names most text bytes one two p q =
     let rules = rule_file_is_one rules_law names.rules text p.rules q.rules p.rules_is q.rules_is in
     let capture = one_capture_file answer_law names.capture bytes p.capture q.capture p.capture_is q.capture_is in

@@ -1,13 +1,13 @@
 -- What holds of a run, from how it ended.
 use Rattle.std.proofs.Common.{◌≡◌, ◌≢◌, ◌⊎◌, inl, inr, ℕ, ◌<◌, ◌≤◌, List, length, Some, None, refl, sym, ◌∙◌, ap, subst, arith}
-use Rattle.std.specs.Prelude.{codes}
 use Rattle.std.proofs.lemmas.Bool.{cases_lt}
 use Rattle.byte_ends.specs.Told.{Rose, Grows, GrowsByPrefix}
 use Rattle.capture_terms.specs.Capture.{Answer, IsAnswer}
 use Rattle.rule_terms.specs.Rule.{Rule}
+use Rattle.rule_terms.specs.RuleText as rule_text
 use Rattle.command_words.specs.Words.{Names, Asked, inspect, asked_by}
-use Rattle.report.specs.Fault.{Cause, no_command, unread, unwritten, bad_line, bad_capture, long_file, many_frames, many_rules, many_findings, unbuilt, no_memory, status_of}
-use Rattle.tdsl_tool.specs.Verdict.{max_file, Verdict, reports, stops, RuleFile, rules_are, rules_refused, rule_file_of, some_rules, no_rules, AreNoRules, IsRuleFile, RuleFileIsOne, CaptureFile, file_of, IsCaptureFile, IsVerdict, VerdictIsOne, verdict_status, verdict_of}
+use Rattle.report.specs.Fault.{Cause, no_command, unread, unwritten, bad_line, bad_capture, long_file, many_frames, many_rules, many_findings, no_memory, status_of}
+use Rattle.tdsl_tool.specs.Verdict.{max_file, Verdict, reports, stops, RuleFile, rules_are, rules_refused, rule_file_of, HasBadLine, HasManyRules, IsRuleFile, RuleFileIsOne, CaptureFile, file_of, IsCaptureFile, IsVerdict, VerdictIsOne, verdict_status, verdict_of}
 use Rattle.tdsl_tool.specs.Run.{Reading, Writing, HasFailed, IsFaulty, Run, reading, EndsBy, Exactly, HasStatus, Decides, Inspected, Ran, IsOfRules, IfRulesTold, ComesTo, StopsAtRules, StopsAtCapture, StopsAt, IsReported, IsCutOff, Ending, finished, faulted, ending_status, EndsSo, Tells, TellsLine}
 
 abbrev pub SomeAnswer : Type 0
@@ -21,12 +21,15 @@ some_capture_file law name bytes =
       | inr short ↦ (_, inr ((law bytes).0, record { short = short; right = (law bytes).1 }, refl))
     ]
 
--- a rule file that is too long, and one that is no rule text
+-- a rule file that is too long, one with a bad line, and one with too many rules
 is_long_file : (name text file : List ℕ) → file ≡ name → max_file < length text → IsRuleFile name text (rules_refused (long_file file))
 is_long_file name text file same long = inl (long, ap (λ (n : List ℕ). rules_refused (long_file n)) same)
 
-is_unbuilt : (name text what : List ℕ) → what ≡ codes "rules" → AreNoRules text → IsRuleFile name text (rules_refused (unbuilt what))
-is_unbuilt name text what same none = inr (no_rules, none, ap (λ (w : List ℕ). rules_refused (unbuilt w)) same)
+is_bad : (name text : List ℕ) (number : ℕ) → HasBadLine text number → IsRuleFile name text (rules_refused (bad_line number))
+is_bad name text number is = inr (rule_text.bad_line number, is, refl)
+
+is_many : (name text : List ℕ) → HasManyRules text → IsRuleFile name text (rules_refused many_rules)
+is_many name text is = inr (rule_text.too_many, is, refl)
 
 not_both : (rules : List Rule) (cause : Cause) → rules_are rules ≡ rules_refused cause → ⊥
 not_both rules cause same = cc
@@ -71,10 +74,10 @@ module _ (of : Reading) (out : Writing) where
   report_cause finished ends is = ends
   report_cause (faulted cause) ends is = absurd (omega (arith, some_status cause))
 
-  unbuilt_cause : (ending : Ending) → EndsSo of out ending → ending_status ending ≡ 8 → IfRulesTold of AreNoRules
-  unbuilt_cause (faulted (unbuilt what)) ends is = elim ends.0 [ inl at ↦ at.1 | inr at ↦ absurd at ]
-  unbuilt_cause finished ends is = absurd (omega arith)
-  unbuilt_cause (faulted cause) ends is = absurd (omega arith)
+  bad_cause : (ending : Ending) → EndsSo of out ending → ending_status ending ≡ 4 → IfRulesTold of (λ text. (number : ℕ) × HasBadLine text number)
+  bad_cause (faulted (bad_line number)) ends is = elim ends.0 [ inl at ↦ (λ text told. (number, at text told)) | inr at ↦ absurd at ]
+  bad_cause finished ends is = absurd (omega arith)
+  bad_cause (faulted cause) ends is = absurd (omega arith)
 
   nothing_cause : (ending : Ending) → EndsSo of out ending → ending_status ending ≢ 0 → ending_status ending ≢ 3 → out.after ≡ out.before
   nothing_cause finished ends nonzero other = absurd (nonzero refl)
@@ -99,7 +102,8 @@ module _ (one : VerdictIsOne) (some : SomeAnswer) (of : Reading) (out : Writing)
     rules_found (unread name) why = inl (inr refl)
     rules_found no_memory why = inl (inl refl)
     rules_found (long_file name) why = inr (stops (long_file name), refl, by_rules (long_file name) (is_long_file of.rules.name text name why.0 (why.1 text told)))
-    rules_found (unbuilt what) why = inr (stops (unbuilt what), refl, by_rules (unbuilt what) (is_unbuilt of.rules.name text what why.0 (why.1 text told)))
+    rules_found (bad_line number) why = inr (stops (bad_line number), refl, by_rules (bad_line number) (is_bad of.rules.name text number (why text told)))
+    rules_found many_rules why = inr (stops many_rules, refl, by_rules many_rules (is_many of.rules.name text (why text told)))
     rules_found cause why = absurd why
 
     capture_found : (cause : Cause) → StopsAtCapture of cause → IsFree (status_of cause) ⊎ HasStatus of text bytes (status_of cause)
@@ -176,7 +180,8 @@ module _ (one : VerdictIsOne) (some : SomeAnswer) (of : Reading) (out : Writing)
     rules_by_rules (unread name) why = inr (inl (inr refl))
     rules_by_rules no_memory why = inr (inl (inl refl))
     rules_by_rules (long_file name) why = inr (inr (is_long_file of.rules.name text name why.0 (why.1 text told)))
-    rules_by_rules (unbuilt what) why = inr (inr (is_unbuilt of.rules.name text what why.0 (why.1 text told)))
+    rules_by_rules (bad_line number) why = inr (inr (is_bad of.rules.name text number (why text told)))
+    rules_by_rules many_rules why = inr (inr (is_many of.rules.name text (why text told)))
     rules_by_rules cause why = absurd why
 
     rules_by_capture : (cause : Cause) → StopsAtCapture of cause → IsRulesBy cause
@@ -206,7 +211,7 @@ module _ (one : VerdictIsOne) (some : SomeAnswer) (of : Reading) (out : Writing)
     refused_ends : RuleFileIsOne → (ending : Ending) (status : ℕ) → EndsSo of out ending → status ≡ ending_status ending → (cause : Cause) → IsRuleFile of.rules.name text (rules_refused cause) → EndsBy status (status_of cause)
     refused_ends one_file ending status ends is cause refused =
         elim (rules_by_ending ending ends) [
-          | inl are ↦ absurd (not_both _ cause (one_file of.rules.name text (rules_are are.0) (rules_refused cause) (inr (some_rules are.0, are.1, refl)) refused))
+          | inl are ↦ absurd (not_both _ cause (one_file of.rules.name text (rules_are are.0) (rules_refused cause) (inr (rule_text.list are.0, are.1, refl)) refused))
           | inr (inl (inl seven)) ↦ inr (inl (is ∙ seven))
           | inr (inl (inr two)) ↦ inr (inr (is ∙ two))
           | inr (inr by) ↦ inl (is ∙ by.1 ∙ ap rule_status (one_file of.rules.name text (rules_refused by.0) (rules_refused cause) by.2 refused))
@@ -222,7 +227,7 @@ inspected one one_file some run of ending is ends tells = record {
   report = λ zero. (report_cause of run.out ending ends (sym is ∙ zero), quiet_cause run.faults ending tells (sym is ∙ zero));
   read = λ two. read_cause of run.out ending ends (sym is ∙ two);
   write = λ three. write_cause of run.out ending ends (sym is ∙ three);
-  unbuilt_rules = λ eight. unbuilt_cause of run.out ending ends (sym is ∙ eight);
+  bad_rules = λ four. bad_cause of run.out ending ends (sym is ∙ four);
   refused_rules = λ text told. refused_ends one some of run.out text told one_file ending run.status ends is;
   refused_files = λ text told bytes told' status. exactly one some of run.out text bytes told told' ending run.status status ends is;
   complete = λ text told bytes told'. written one some of run.out text bytes told told' ending run.status ends is;

@@ -4,8 +4,9 @@ use Rattle.std.specs.Prelude.{IfSome}
 use Rattle.byte_ends.specs.Told.{Rose, IfTold}
 use Rattle.capture_terms.specs.Capture.{Answer, captured, IsAnswer}
 use Rattle.rule_terms.specs.Rule.{Rule}
-use Rattle.report.specs.Fault.{Cause, no_command, unread, unwritten, bad_line, bad_capture, long_file, many_frames, many_rules, many_findings, unbuilt, no_memory}
-use Rattle.tdsl_tool.specs.Verdict.{max_file, Verdict, stops, IsVerdictUnder, rules_are, some_rules, AreRules, CaptureFile, capture_is, capture_refused, file_of}
+use Rattle.rule_terms.specs.RuleText as rule_text
+use Rattle.report.specs.Fault.{Cause, no_command, unread, unwritten, bad_line, bad_capture, long_file, many_frames, many_rules, many_findings, no_memory}
+use Rattle.tdsl_tool.specs.Verdict.{max_file, Verdict, stops, IsVerdictUnder, rules_are, AreRules, CaptureFile, capture_is, capture_refused, file_of}
 use Rattle.tdsl_tool.specs.Run.{Source, HasFailed, Reading, IfRulesTold, ComesTo, StopsReading, StopsAtRules, StopsAtCapture, StopsUnder}
 
 -- a capture file whose answer is a refusal comes to it
@@ -18,7 +19,8 @@ refused_under most rules name bytes told answer cause same is short right = reco
 
 -- a file that gave no bytes gives no rules
 pub stops_at_rules : (file : Source) (cause : Cause) → StopsReading file cause → StopsAtRules file cause
-stops_at_rules file (unbuilt what) why = absurd why
+stops_at_rules file (bad_line number) why = absurd why
+stops_at_rules file many_rules why = absurd why
 stops_at_rules file cause why = why
 
 module _ (of : Reading) (rules : List Rule) (are : IfRulesTold of (λ text. AreRules text rules)) where
@@ -28,7 +30,7 @@ module _ (of : Reading) (rules : List Rule) (are : IfRulesTold of (λ text. AreR
     rules = λ text told. (rules, are text told);
     verdict_is = λ text told bytes told'.
         let here = under bytes told' in
-        record { rules = rules_are rules; capture = here.capture; rules_is = inr (some_rules rules, are text told, refl); capture_is = here.capture_is; comes_to = here.comes_to };
+        record { rules = rules_are rules; capture = here.capture; rules_is = inr (rule_text.list rules, are text told, refl); capture_is = here.capture_is; comes_to = here.comes_to };
   }
 
   -- a capture file that gives no bytes
@@ -51,7 +53,6 @@ module _ (of : Reading) (rules : List Rule) (are : IfRulesTold of (λ text. AreR
   stops_unread file name told failed many_frames why = absurd why
   stops_unread file name told failed many_rules why = absurd why
   stops_unread file name told failed many_findings why = absurd why
-  stops_unread file name told failed (unbuilt n) why = absurd why
 
   module _ (bytes : List ℕ) (whole : IfTold of.capture.told (λ told. bytes ≡ told)) where
     -- of bytes that are those of the file

@@ -1,11 +1,11 @@
 -- How a run of the program ends, and what it leaves.
-use Rattle.std.specs.Prelude.{◌≡◌, ◌≢◌, ◌⊎◌, ◌↔◌, ℕ, ◌<◌, List, length, Option, Result, Ok, Err, codes}
+use Rattle.std.specs.Prelude.{◌≡◌, ◌≢◌, ◌⊎◌, ◌↔◌, ℕ, ◌<◌, List, length, Option, Result, Ok, Err}
 use Rattle.byte_ends.specs.Told.{Rose, IfTold, Grows, GrowsByPrefix}
 use Rattle.rule_terms.specs.Rule.{Rule}
 use Rattle.command_words.specs.Words.{Names, unknown, inspect, asked_by}
 use Rattle.report.specs.declared.fault.Fault.{Fault}
-use Rattle.report.specs.Fault.{Cause, no_command, unread, unwritten, bad_capture, long_file, many_frames, many_findings, unbuilt, no_memory, cause_of, status_of, line_of}
-use Rattle.tdsl_tool.specs.Verdict.{Verdict, reports, stops, IsVerdict, IsVerdictUnder, max_file, AreRules, AreNoRules, rules_refused, IsRuleFile, verdict_status}
+use Rattle.report.specs.Fault.{Cause, no_command, unread, unwritten, bad_line, bad_capture, long_file, many_frames, many_rules, many_findings, no_memory, cause_of, status_of, line_of}
+use Rattle.tdsl_tool.specs.Verdict.{Verdict, reports, stops, IsVerdict, IsVerdictUnder, max_file, AreRules, HasBadLine, HasManyRules, rules_refused, IsRuleFile, verdict_status}
 
 -- The files and the sinks of a run.
 
@@ -89,7 +89,8 @@ StopsReading file cause = ⊥
 
 -- a rule file that gives no rules
 abbrev pub StopsAtRules : Source → Cause → Type 0
-StopsAtRules file (unbuilt what) = (what ≡ codes "rules") × IfTold file.told AreNoRules
+StopsAtRules file (bad_line number) = IfTold file.told (λ text. HasBadLine text number)
+StopsAtRules file many_rules = IfTold file.told HasManyRules
 StopsAtRules file cause = StopsReading file cause
 
 -- a capture file of these bytes that gives no report under rules
@@ -180,8 +181,8 @@ pub record Inspected (run : Run) (of : Reading) : Type 0 where
   pub read : run.status ≡ 2 → HasFailed of.rules ⊎ (HasFailed of.capture × IfRulesTold of IsOfRules)
   -- 3 comes only where calls of standard output failed, and a prefix of the report was written
   pub write : run.status ≡ 3 → IsCutOff of run.out
-  -- 8 comes only where the rule file isn't too long and no rule text
-  pub unbuilt_rules : run.status ≡ 8 → IfRulesTold of AreNoRules
+  -- 4 comes only where the rule file isn't too long and has a first bad line
+  pub bad_rules : run.status ≡ 4 → IfRulesTold of (λ text. (number : ℕ) × HasBadLine text number)
   -- a rule file that is refused decides the status, whatever the capture file is
   pub refused_rules : IfRulesTold of (λ text. (cause : Cause) → IsRuleFile of.rules.name text (rules_refused cause) → EndsBy run.status (status_of cause))
   -- each other status comes exactly where the two files come to a fault of this status

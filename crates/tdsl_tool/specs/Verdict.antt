@@ -1,11 +1,11 @@
 -- What a rule file and a capture file come to, as their bytes tell: a report, or the cause of a fault.
-use Rattle.std.specs.Prelude.{◌≡◌, ℕ, ◌<◌, ◌≤◌, ◌⊎◌, nat_lt, List, length, if◌then◌else◌, codes}
+use Rattle.std.specs.Prelude.{◌≡◌, ℕ, ◌<◌, ◌≤◌, ◌⊎◌, nat_lt, List, length, if◌then◌else◌}
 use Rattle.capture_terms.specs.Capture.{Answer, captured, refused, too_many_frames, IsAnswer, Contents}
 use Rattle.rule_terms.specs.Rule.{Rule}
-use Rattle.rule_terms.specs.RuleText.{IsRuleText}
+use Rattle.rule_terms.specs.RuleText as rule_text
 use Rattle.inspection_terms.specs.Findings.{findings_of_capture}
 use Rattle.command_words.specs.Words.{Names}
-use Rattle.report.specs.Fault.{Cause, bad_capture, long_file, many_frames, many_findings, unbuilt, status_of}
+use Rattle.report.specs.Fault.{Cause, bad_line, bad_capture, long_file, many_frames, many_rules, many_findings, status_of}
 use Rattle.tdsl_tool.specs.Inspection.{report_of}
 
 -- the most bytes that a file may have: 64 MiB
@@ -14,41 +14,37 @@ max_file = 67108864
 
 -- The rule file.
 
--- what a rule text is: rules, or none
-pub data RulesAnswer : Type 0 where
-  some_rules : List Rule → RulesAnswer
-  no_rules : RulesAnswer
-
-abbrev pub IsRulesAnswer : List ℕ → RulesAnswer → Type 0
-IsRulesAnswer text (some_rules rules) = IsRuleText text rules
-IsRulesAnswer text no_rules = (rules : List Rule) → ¬ IsRuleText text rules
-
 -- what a rule file is: rules, or refused
 pub data RuleFile : Type 0 where
   rules_are : List Rule → RuleFile
   rules_refused : Cause → RuleFile
 
--- what the file is by the right answer about its text
-abbrev pub rule_file_of : RulesAnswer → RuleFile
-rule_file_of (some_rules rules) = rules_are rules
-rule_file_of no_rules = rules_refused (unbuilt (codes "rules"))
+-- what the file is by how the reading of its text ends
+abbrev pub rule_file_of : rule_text.Reading → RuleFile
+rule_file_of (rule_text.list rules) = rules_are rules
+rule_file_of (rule_text.bad_line number) = rules_refused (bad_line number)
+rule_file_of rule_text.too_many = rules_refused many_rules
 
--- the answer about this text is right, and the text is not too long
-pub record IsTaken (text : List ℕ) (answer : RulesAnswer) : Type 0 where
+-- the reading of this text ends so, and the text is not too long
+pub record IsTaken (text : List ℕ) (reading : rule_text.Reading) : Type 0 where
   pub short : length text ≤ max_file
-  pub right : IsRulesAnswer text answer
+  pub right : rule_text.IsReadingOf text reading
 
 abbrev pub AreRules : List ℕ → List Rule → Type 0
-AreRules text rules = IsTaken text (some_rules rules)
+AreRules text rules = IsTaken text (rule_text.list rules)
 
-abbrev pub AreNoRules : List ℕ → Type 0
-AreNoRules text = IsTaken text no_rules
+-- the line of this number is the first bad one
+abbrev pub HasBadLine : List ℕ → ℕ → Type 0
+HasBadLine text number = IsTaken text (rule_text.bad_line number)
+
+abbrev pub HasManyRules : List ℕ → Type 0
+HasManyRules text = IsTaken text rule_text.too_many
 
 -- what a rule file of this name and text is
 abbrev pub IsRuleFile : List ℕ → List ℕ → RuleFile → Type 0
 IsRuleFile name text file =
     ((max_file < length text) × (file ≡ rules_refused (long_file name)))
-    ⊎ ((answer : RulesAnswer) × IsTaken text answer × (file ≡ rule_file_of answer))
+    ⊎ ((reading : rule_text.Reading) × IsTaken text reading × (file ≡ rule_file_of reading))
 
 -- The capture file.
 

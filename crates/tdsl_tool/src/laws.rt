@@ -3,7 +3,7 @@
 ghost use Rattle.tdsl_tool.specs.Verdict.{RuleFileIsOne, VerdictIsOne};
 
 use capture_terms::one_answer;
-use rule_terms::rule_text_is_one;
+use rule_terms::text_has_one_reading;
 
 /// A rule file is one thing only, and two files come to one verdict only. So the causes of different
 /// faults exclude each other.
@@ -12,5 +12,5 @@ pub fn one_verdict()
     ensures files { VerdictIsOne }
 {
     one_answer();
-    rule_text_is_one();
+    text_has_one_reading();
 }

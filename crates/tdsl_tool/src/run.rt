@@ -47,7 +47,8 @@ fn rules_from<'a, F: Files>(alloc: Global, files: &mut F, name: &'a str) -> Resu
     };
     match rules(alloc, &text) {
         Ok(rules) => Ok(rules),
-        Err(RulesEnd::Unbuilt) => Err(Fault::Unbuilt("rules")),
+        Err(RulesEnd::Line { number }) => Err(Fault::Rules { line: number }),
+        Err(RulesEnd::TooMany) => Err(Fault::LimitRules),
         Err(RulesEnd::Memory) => Err(Fault::Memory),
     }
 }

@@ -335,11 +335,19 @@ fn faults_are_told_with_their_status(rt: HostRuntime) -> Result<(), Fail> {
         ),
         (
             COMMAND.as_slice(),
-            b"rule x proto udp".as_slice(),
+            b"# c\n\nrule x proto udp".as_slice(),
             hello.as_slice(),
             0,
-            8,
-            "unbuilt: rules\n",
+            4,
+            "bad rules: line 3\n",
+        ),
+        (
+            COMMAND.as_slice(),
+            b"rule a proto any has \"|6|\"".as_slice(),
+            hello.as_slice(),
+            0,
+            4,
+            "bad rules: line 1\n",
         ),
     ] {
         let got = inspected(alloc, words, rules, capture, failing)?;
@@ -347,6 +355,22 @@ fn faults_are_told_with_their_status(rt: HostRuntime) -> Result<(), Fail> {
         assert_eq!(rt; got.out.as_slice(), b"".as_slice(), "{line}");
         assert_eq!(rt; got.faults.as_slice(), line.as_bytes(), "{line}");
     }
+    Ok(())
+}
+
+#[test]
+fn a_further_rule_behind_1024_is_a_limit(rt: HostRuntime) -> Result<(), Fail> {
+    let alloc = rt.alloc();
+    let mut rules = Vec::new(alloc);
+    for number in 0u32..1025 {
+        rules.extend_from_slice(b"rule r")?;
+        let digits = number.to_string(alloc)?;
+        rules.extend_from_slice(digits.as_bytes())?;
+        rules.extend_from_slice(b" proto any has \"x\"\n")?;
+    }
+    let got = inspected(alloc, COMMAND.as_slice(), &rules, HEADER, 0)?;
+    assert_eq!(rt; got.status, 6);
+    assert_eq!(rt; got.faults.as_slice(), b"limit: rules\n".as_slice());
     Ok(())
 }
 
