@@ -17,7 +17,7 @@ const TCP: u8 = 6;
 
 const UDP: u8 = 17;
 
-const FEW: u32 = 4;
+const FEW: u32 = 8;
 
 /// The mark of each rule, and which marks were seen in a payload.
 #[derive(Clone, Copy, Debug)]
@@ -46,7 +46,7 @@ pub fn findings_of(
     }
 }
 
-// Few rules are looked for one by one, since a filter costs as much as some three searches.
+// Few rules are looked for one by one, since the filter costs as much as seven searches.
 fn found_in(
     alloc: Global,
     rules: &Rules,

@@ -277,6 +277,37 @@ fn each_matching_rule_is_found_at_its_least_place(rt: HostRuntime) -> Result<(),
 }
 
 #[test]
+fn many_rules_are_found_wherever_they_stand(rt: HostRuntime) -> Result<(), Fail> {
+    let alloc = rt.alloc();
+    let payload: [u8; 36] = *b"abcdefghijklmnopqrstuvwxyz0123456789";
+    // Eight bytes from each place, up to the payload's last ones.
+    let mut text = Vec::new(alloc);
+    for start in 0..29usize {
+        text.extend_from_slice(b"rule r")?;
+        let digits = start.to_string(alloc)?;
+        text.extend_from_slice(digits.as_bytes())?;
+        text.extend_from_slice(b" proto any has \"")?;
+        text.extend_from_slice(&payload[start..start + 8])?;
+        text.extend_from_slice(b"\"\n")?;
+    }
+    text.extend_from_slice(
+        b"rule no proto any has \"abcdefgz\"\nrule case proto any has \"QRSTUVWX\" nocase\nrule short proto any has \"9\"\n",
+    )?;
+    assert!(rt; text.len() < 4_294_967_296);
+    let found = findings_of(alloc, &rules(alloc, &text)?, &header(1), &payload)?;
+    assert_eq!(rt; found.len(), 31);
+    for (number, finding) in found.iter().enumerate() {
+        let want = match number {
+            29 => (30, 16),
+            30 => (31, 35),
+            same => (same as u64, same as u64),
+        };
+        assert_eq!(rt; (u64::from(finding.0), u64::from(finding.1)), want);
+    }
+    Ok(())
+}
+
+#[test]
 fn a_rule_has_its_name(rt: HostRuntime) -> Result<(), Fail> {
     let rules = rules(
         rt.alloc(),
