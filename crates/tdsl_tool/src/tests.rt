@@ -368,7 +368,7 @@ fn a_further_rule_behind_1024_is_a_limit(rt: HostRuntime) -> Result<(), Fail> {
         rules.extend_from_slice(digits.as_bytes())?;
         rules.extend_from_slice(b" proto any has \"x\"\n")?;
     }
-    let got = inspected(alloc, COMMAND.as_slice(), &rules, HEADER, 0)?;
+    let got = inspected(alloc, COMMAND.as_slice(), &rules, &HEADER, 0)?;
     assert_eq!(rt; got.status, 6);
     assert_eq!(rt; got.faults.as_slice(), b"limit: rules\n".as_slice());
     Ok(())
