@@ -223,7 +223,7 @@ fn a_report_has_eleven_counts_and_a_line_for_each_finding(rt: HostRuntime) -> Re
 
 #[test]
 fn each_fault_is_told_by_its_line(rt: HostRuntime) -> Result<(), Fail> {
-    let lines: [(Fault<'static>, &str); 14] = [
+    let lines: [(Fault<'static>, &str); 13] = [
         (
             Fault::Usage,
             "usage: inspect|journal [--workers N] [--findings N] RULES CAPTURE | make SEED FRAMES | trial [--workers N] SEED FRAMES\n",

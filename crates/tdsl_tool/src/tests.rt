@@ -502,12 +502,12 @@ fn a_usual_capture_is_reported(rt: HostRuntime) -> Result<(), Fail> {
     ] {
         add_frame(&mut capture, head, length)?;
     }
-    let rules = b"rule dns proto udp dport 53 has \"example\"";
+    let rules = b"rule dns proto udp dport 53 has \"|07|example|03|com|00|\" from 20";
     let got = inspected(alloc, &COMMAND, rules, &capture, 0)?;
     let want = report(
         alloc,
         [8, 2, 0, 0, 3, 3, 0, 0, 4, 0, 1],
-        "finding 4 dns 21\n",
+        "finding 4 dns 20\n",
     )?;
     assert_eq!(rt; got.status, 0);
     assert_eq!(rt; got.out.as_slice(), want.as_slice());
