@@ -1,7 +1,7 @@
 -- No two answers are right about one file.
 use Rattle.std.proofs.Common.{◌≡◌, ℕ, ◌≤◌, ◌⊎◌, inl, inr, Bool, List, length, refl, sym, ◌∙◌, ap, subst, arith}
 use Rattle.capture_terms.specs.Numbers.{number32}
-use Rattle.capture_terms.specs.Capture.{HasMagic, IsHeader, IsAcceptedLink, link_of, HasFrames, IsTail, Contents, Says, HasShortHeader, HasOtherMagic, HasOtherVersion, HasOtherLink, HasLongRecord, HasTooManyFrames, Answer, captured, refused, too_many_frames, IsAnswer}
+use Rattle.capture_terms.specs.Capture.{HasMagic, has_nanos, IsHeader, IsAcceptedLink, link_of, HasFrames, IsTail, Contents, Says, HasShortHeader, HasOtherMagic, HasOtherVersion, HasOtherLink, HasLongRecord, HasTooManyFrames, Answer, captured, refused, too_many_frames, IsAnswer}
 use Rattle.capture_terms.specs.declared.capture.CaptureFault.TheVariants as fault
 use Rattle.capture_terms.specs.declared.capture.Endianness.{Endianness}
 use Rattle.capture_terms.specs.declared.capture.Endianness.TheVariants.{Little, Big}
@@ -9,11 +9,17 @@ use Rattle.capture_terms.specs.declared.capture.Frame.{Frame}
 use Rattle.capture_terms.proofs.Records.{HasNoRecord, tail_has_none, long_has_none, tail_not_long, same_records, no_more_records}
 
 -- the magic number reads differently in the other byte order
-same_order : (bytes : List ℕ) (one two : Endianness) → HasMagic one bytes → HasMagic two bytes → one ≡ two
+not_both_orders : (bytes : List ℕ) → HasMagic Little bytes → HasMagic Big bytes → ⊥
 unfolding number32
+not_both_orders bytes (inl h) (inl k) = omega arith
+not_both_orders bytes (inl h) (inr k) = omega arith
+not_both_orders bytes (inr h) (inl k) = omega arith
+not_both_orders bytes (inr h) (inr k) = omega arith
+
+same_order : (bytes : List ℕ) (one two : Endianness) → HasMagic one bytes → HasMagic two bytes → one ≡ two
 same_order bytes Little Little h k = refl
-same_order bytes Little Big h k = absurd (omega arith)
-same_order bytes Big Little h k = absurd (omega arith)
+same_order bytes Little Big h k = absurd (not_both_orders bytes h k)
+same_order bytes Big Little h k = absurd (not_both_orders bytes k h)
 same_order bytes Big Big h k = refl
 
 has_no_header : (bytes : List ℕ) (at : ℕ) → HasShortHeader bytes at ⊎ HasOtherMagic bytes at → (order : Endianness) → 24 ≤ length bytes → HasMagic order bytes → ⊥
@@ -92,7 +98,7 @@ same_parts one two nanos link frames torn =
 same_contents : (bytes : List ℕ) (one two : Contents) → Says bytes one → Says bytes two → one ≡ two
 same_contents bytes one two h k =
     let both = same_frames bytes h.order k.order one.frames two.frames h.end k.end h.before (tail_has_none h.order bytes h.end one.torn h.tail) k.before (tail_has_none k.order bytes k.end two.torn k.tail) in
-    same_parts one two (h.microseconds ∙ sym k.microseconds) (h.link ∙ ap (λ (o : Endianness). link_of o bytes) both.0 ∙ sym k.link) both.1 (omega (arith, h.tail.left, k.tail.left, both.2))
+    same_parts one two (h.unit ∙ ap (λ (o : Endianness). has_nanos o bytes) both.0 ∙ sym k.unit) (h.link ∙ ap (λ (o : Endianness). link_of o bytes) both.0 ∙ sym k.link) both.1 (omega (arith, h.tail.left, k.tail.left, both.2))
 
 -- two right answers are the same
 pub same_answer : (bytes : List ℕ) (one two : Answer) → IsAnswer bytes one → IsAnswer bytes two → one ≡ two

@@ -1,9 +1,9 @@
 -- Each file has a right answer: that of going from record to record.
-use Rattle.std.proofs.Common.{◌≡◌, ℕ, zero, suc, ◌+◌, ◌-◌, ◌≤◌, ◌⊎◌, inl, inr, false, List, [], ◌∷◌, length, Option, None, Some, refl, arith}
+use Rattle.std.proofs.Common.{◌≡◌, ℕ, zero, suc, ◌+◌, ◌-◌, ◌≤◌, ◌⊎◌, inl, inr, List, [], ◌∷◌, length, Option, None, Some, refl, arith}
 use Rattle.std.specs.Prelude.{IsSome}
 use Rattle.std.proofs.lemmas.Bool.{cases_lt, cases_eq}
-use Rattle.capture_terms.specs.Numbers.{number16, number32}
-use Rattle.capture_terms.specs.Capture.{HasMagic, HasVersion, IsHeader, IsAcceptedLink, link_numbered, link_of, captured_length, frame_at, IsRecord, AreRecords, IsLongRecord, IsTail, HasFrames, Answer, captured, refused, too_many_frames, IsAnswer}
+use Rattle.capture_terms.specs.Numbers.{number16}
+use Rattle.capture_terms.specs.Capture.{magic_of, HasMagic, has_nanos, HasVersion, IsHeader, IsAcceptedLink, link_numbered, link_of, captured_length, frame_at, IsRecord, AreRecords, IsLongRecord, IsTail, HasFrames, Answer, captured, refused, too_many_frames, IsAnswer}
 use Rattle.capture_terms.specs.declared.capture.CaptureFault.TheVariants as fault
 use Rattle.capture_terms.specs.declared.capture.Endianness.{Endianness}
 use Rattle.capture_terms.specs.declared.capture.Endianness.TheVariants.{Little, Big}
@@ -65,7 +65,7 @@ answer_from bytes order header accepted count is walked = by_stop walked.stop
 
     by_stop : Stop order bytes walked.end (count - length walked.frames) → (answer : Answer) × IsAnswer bytes answer
     by_stop (stop_long long) = (refused (fault.Record walked.end), record { order = order; frames = walked.frames; before = before; long = long })
-    by_stop (stop_tail torn tail) = (captured record { nanos = false; link = link_of order bytes; frames = walked.frames; torn = torn }, record { order = order; end = walked.end; before = before; tail = tail; link = refl; microseconds = refl })
+    by_stop (stop_tail torn tail) = (captured record { nanos = has_nanos order bytes; link = link_of order bytes; frames = walked.frames; torn = torn }, record { order = order; end = walked.end; before = before; tail = tail; link = refl; unit = refl })
     by_stop (stop_many none next more) = (too_many_frames, record { order = order; frames = walked.frames; end = walked.end; next = next; before = before; many = omega (arith, walked.few); more = more })
 
 cases_link : (link : ℕ) → IsAcceptedLink link ⊎ ¬ IsAcceptedLink link
@@ -95,13 +95,22 @@ answer_in bytes order long magic = elim (cases_version order bytes) [
   | inr other ↦ (refused fault.Version, record { order = order; long = long; magic = magic; other = other })
 ]
 
+cases_magic : (order : Endianness) (bytes : List ℕ) → HasMagic order bytes ⊎ ¬ HasMagic order bytes
+cases_magic order bytes = elim (cases_eq (magic_of order bytes) 0xa1b2c3d4) [
+  | inl micros ↦ inl (inl micros)
+  | inr not_micros ↦ elim (cases_eq (magic_of order bytes) 0xa1b23c4d) [
+    | inl nanos ↦ inl (inr nanos)
+    | inr not_nanos ↦ inr (λ either. elim either [ inl micros ↦ not_micros micros | inr nanos ↦ not_nanos nanos ])
+  ]
+]
+
 -- some answer is right
 pub right_answer : (bytes : List ℕ) → (answer : Answer) × IsAnswer bytes answer
 right_answer bytes = elim (cases_lt (length bytes) 24) [
   | inl short ↦ (refused (fault.Header (length bytes)), inl record { short = short; place = refl })
-  | inr long ↦ elim (cases_eq (number32 Little bytes 0) 0xa1b2c3d4) [
+  | inr long ↦ elim (cases_magic Little bytes) [
     | inl magic ↦ answer_in bytes Little long magic
-    | inr little ↦ elim (cases_eq (number32 Big bytes 0) 0xa1b2c3d4) [
+    | inr little ↦ elim (cases_magic Big bytes) [
       | inl magic ↦ answer_in bytes Big long magic
       | inr big ↦ (refused (fault.Header 0), inr record { long = long; little = little; big = big; place = refl })
     ]

@@ -1,22 +1,29 @@
 -- Captures in the pcap file format, version 2.4: a file header of 24 bytes, and packet records one
 -- behind the other. Ours alone are the accepted link types, the limits of 262,144, and what is done
 -- with a file that ends within a record.
-use Rattle.std.specs.Prelude.{◌≡◌, ℕ, ◌+◌, ◌%◌, ◌<◌, ◌≤◌, ◌⊎◌, ◌==◌, Bool, false, List, [], ◌∷◌, length, take, drop, Option, Some, None, IsSome, if◌then◌else◌}
+use Rattle.std.specs.Prelude.{◌≡◌, ℕ, ◌+◌, ◌%◌, ◌<◌, ◌≤◌, ◌⊎◌, ◌==◌, Bool, List, [], ◌∷◌, length, take, drop, Option, Some, None, IsSome, if◌then◌else◌}
 use Rattle.capture_terms.specs.Numbers.{number16, number32}
 use Rattle.capture_terms.specs.declared.capture.Endianness.{Endianness}
 use Rattle.capture_terms.specs.declared.capture.Endianness.TheVariants.{Little, Big}
 use Rattle.capture_terms.specs.declared.capture.Frame.{Frame}
 use Rattle.capture_terms.specs.declared.capture.Link.{Link}
-use Rattle.capture_terms.specs.declared.capture.Link.TheVariants.{Ethernet, Raw}
+use Rattle.capture_terms.specs.declared.capture.Link.TheVariants.{Ethernet, Raw, CookedV1, CookedV2}
 use Rattle.capture_terms.specs.declared.capture.Capture.{Capture}
 use Rattle.capture_terms.specs.declared.capture.CaptureFault.{CaptureFault}
 use Rattle.capture_terms.specs.declared.capture.CaptureFault.TheVariants as fault
 
 -- The file header.
 
--- the magic number at the head of the file, which tells its byte order
+-- the magic number at the head of the file
+abbrev pub magic_of : Endianness → List ℕ → ℕ
+magic_of order bytes = number32 order bytes 0
+
+-- it is that of fractions in microseconds, or that of nanoseconds; so it tells the file's byte order
 abbrev pub HasMagic : Endianness → List ℕ → Type 0
-HasMagic order bytes = number32 order bytes 0 ≡ 0xa1b2c3d4
+HasMagic order bytes = (magic_of order bytes ≡ 0xa1b2c3d4) ⊎ (magic_of order bytes ≡ 0xa1b23c4d)
+
+abbrev pub has_nanos : Endianness → List ℕ → Bool
+has_nanos order bytes = magic_of order bytes == 0xa1b23c4d
 
 -- the major and minor version
 abbrev pub HasVersion : Endianness → List ℕ → Type 0
@@ -28,7 +35,12 @@ link_of order bytes = number32 order bytes 20 % 65536
 
 -- the link whose link type has this number in the pcap file format, if it is one that is read
 abbrev pub link_numbered : ℕ → Option Link
-link_numbered number = if number == 1 then Some Ethernet else if number == 101 then Some Raw else None
+link_numbered number =
+    if number == 1 then Some Ethernet
+    else if number == 101 then Some Raw
+    else if number == 113 then Some CookedV1
+    else if number == 276 then Some CookedV2
+    else None
 
 -- the link type is accepted where its frames are read
 abbrev pub IsAcceptedLink : ℕ → Type 0
@@ -117,7 +129,7 @@ pub record Says (bytes : List ℕ) (contents : Contents) : Type 0 where
   pub before : HasFrames order bytes contents.frames end
   pub tail : IsTail order bytes end contents.torn
   pub link : contents.link ≡ link_of order bytes
-  pub microseconds : contents.nanos ≡ false
+  pub unit : contents.nanos ≡ has_nanos order bytes
 
 abbrev pub IsCapture : List ℕ → Capture → Type 0
 IsCapture bytes capture = Says bytes (contents_of capture)
@@ -127,14 +139,14 @@ pub record HasShortHeader (bytes : List ℕ) (at : ℕ) : Type 0 where
   pub short : length bytes < 24
   pub place : at ≡ length bytes
 
--- the file has the magic number in neither byte order, which is said of place 0
+-- the file has no known magic number in either byte order, which is said of place 0
 pub record HasOtherMagic (bytes : List ℕ) (at : ℕ) : Type 0 where
   pub long : 24 ≤ length bytes
   pub little : ¬ HasMagic Little bytes
   pub big : ¬ HasMagic Big bytes
   pub place : at ≡ 0
 
--- the file has the magic number and another version
+-- the file has a known magic number and another version
 pub record HasOtherVersion (bytes : List ℕ) : Type 0 where
   pub order : Endianness
   pub long : 24 ≤ length bytes

@@ -1,12 +1,13 @@
--- What a frame carries: an Ethernet frame or a raw IP packet, and the internet header of RFC 791,
--- section 3.1, with its fields as numbers. Ours alone are the classes and their order.
+-- What a frame carries: an Ethernet frame, a raw IP packet or a packet behind a Linux cooked header,
+-- and the internet header of RFC 791, section 3.1, with its fields as numbers. Ours alone are the
+-- classes and their order.
 use Rattle.std.specs.Prelude.{ℕ, ◌+◌, ◌-◌, ◌*◌, ◌/◌, ◌%◌, Bool, not, ◌||◌, ◌&&◌, ◌==◌, nat_lt, nat_le, List, length, drop, slice_index, Option, Some, None, if◌then◌else◌}
 use Rattle.capture_terms.specs.Capture.{frame_bytes}
 use Rattle.capture_terms.specs.Numbers.{number16, number32}
 use Rattle.capture_terms.specs.declared.capture.Endianness.TheVariants.{Big}
 use Rattle.capture_terms.specs.declared.capture.Frame.{Frame}
 use Rattle.capture_terms.specs.declared.capture.Link.{Link}
-use Rattle.capture_terms.specs.declared.capture.Link.TheVariants.{Ethernet, Raw}
+use Rattle.capture_terms.specs.declared.capture.Link.TheVariants.{Ethernet, Raw, CookedV1, CookedV2}
 use Rattle.capture_terms.specs.declared.datagram.Header.{Header}
 use Rattle.capture_terms.specs.declared.datagram.Piece.{Piece}
 use Rattle.capture_terms.specs.declared.datagram.Kind.{Kind}
@@ -37,10 +38,20 @@ ethernet_start frame =
 unfoldable pub raw_start : List ℕ → Option ℕ
 raw_start frame = if nat_lt 0 (length frame) && (slice_index frame 0 / 16 == 4) then Some 0 else None
 
+-- in a packet of Linux's cooked captures: behind the header of 16 bytes, at whose end the type stands
+unfoldable pub cooked_v1_start : List ℕ → Option ℕ
+cooked_v1_start frame = if has_ipv4 frame 14 then Some 16 else None
+
+-- the same of version 2: behind the header of 20 bytes, at whose head the type stands
+unfoldable pub cooked_v2_start : List ℕ → Option ℕ
+cooked_v2_start frame = if has_ipv4 frame 0 && nat_le 20 (length frame) then Some 20 else None
+
 -- in a frame behind this link
 abbrev pub datagram_start : Link → List ℕ → Option ℕ
 datagram_start Ethernet frame = ethernet_start frame
 datagram_start Raw frame = raw_start frame
+datagram_start CookedV1 frame = cooked_v1_start frame
+datagram_start CookedV2 frame = cooked_v2_start frame
 
 -- The fields of the internet header at the head of a datagram.
 

@@ -17,6 +17,12 @@ pub enum Link {
     Ethernet,
     /// An IP packet, with nothing before it. The link type's number is 101.
     Raw,
+    /// The header of 16 bytes that Linux writes where a capture is of any device, with the type at its
+    /// end. The link type's number is 113.
+    CookedV1,
+    /// The header of version 2 of these, of 20 bytes with the type at its head. The link type's number
+    /// is 276.
+    CookedV2,
 }
 
 impl Link {
@@ -27,6 +33,8 @@ impl Link {
         match number {
             1 => Some(Link::Ethernet),
             101 => Some(Link::Raw),
+            113 => Some(Link::CookedV1),
+            276 => Some(Link::CookedV2),
             _ => None,
         }
     }
@@ -50,7 +58,7 @@ pub struct Frame {
 /// What a capture file says.
 #[derive(Drop)]
 pub struct Capture {
-    /// Whether the fractions of its times are nanoseconds. They are microseconds for now.
+    /// Whether the fractions of its times are nanoseconds. Else they are microseconds.
     pub nanos: bool,
     /// The number of the link type of its frames, which `Link` reads.
     pub link: u16,

@@ -75,6 +75,28 @@ fn raw_start(frame: &[u8]) -> Option<usize>
     }
 }
 
+// Where the datagram begins behind a Linux cooked header, at whose end the type stands.
+#[tactic(auto, unfolding(capture_terms::specs::Classes::cooked_v1_start))]
+fn cooked_v1_start(frame: &[u8]) -> Option<usize>
+    ensures start { result ≡ classes.cooked_v1_start frame.now }
+    ensures within { IfSome result (λ start. start ≤ length frame.now) }
+{
+    if has_ipv4(frame, 14) { Some(16) } else { None }
+}
+
+// The same behind one of version 2, at whose head the type stands.
+#[tactic(auto, unfolding(capture_terms::specs::Classes::cooked_v2_start))]
+fn cooked_v2_start(frame: &[u8]) -> Option<usize>
+    ensures start { result ≡ classes.cooked_v2_start frame.now }
+    ensures within { IfSome result (λ start. start ≤ length frame.now) }
+{
+    if has_ipv4(frame, 0) && frame.len() >= 20 {
+        Some(20)
+    } else {
+        None
+    }
+}
+
 fn datagram_start(link: Link, frame: &[u8]) -> Option<usize>
     ensures start { result ≡ classes.datagram_start link frame.now }
     ensures within { IfSome result (λ start. start ≤ length frame.now) }
@@ -82,6 +104,8 @@ fn datagram_start(link: Link, frame: &[u8]) -> Option<usize>
     match link {
         Link::Ethernet => ethernet_start(frame),
         Link::Raw => raw_start(frame),
+        Link::CookedV1 => cooked_v1_start(frame),
+        Link::CookedV2 => cooked_v2_start(frame),
     }
 }
 

@@ -15,6 +15,10 @@ const ETHERNET: u16 = 1;
 
 const RAW_IP: u16 = 101;
 
+const COOKED_V1: u16 = 113;
+
+const COOKED_V2: u16 = 276;
+
 /// An Ethernet header with the type of IPv4.
 const IPV4: &[u8] = b"\x02\0\0\0\0\x02\x02\0\0\0\0\x01\x08\x00";
 
@@ -25,6 +29,14 @@ const TWO_TAGS: &[u8] = b"\x02\0\0\0\0\x02\x02\0\0\0\0\x01\x81\x00\x00\x01\x88\x
 
 const THREE_TAGS: &[u8] =
     b"\x02\0\0\0\0\x02\x02\0\0\0\0\x01\x81\x00\x00\x01\x88\xa8\x00\x02\x81\x00\x00\x03\x08\x00";
+
+/// A cooked header with the type of IPv4, and the same of version 2.
+const COOKED: &[u8] = b"\0\0\0\x01\0\x06\x02\0\0\0\0\x01\0\0\x08\x00";
+
+const COOKED_TYPE_FIRST: &[u8] = b"\x08\x00\0\0\0\0\0\x01\0\x01\0\x06\x02\0\0\0\0\x01\0\0";
+
+/// 19 bytes of the second.
+const COOKED_CUT: &[u8] = b"\x08\x00\0\0\0\0\0\x01\0\x01\0\x06\x02\0\0\0\0\x01\0";
 
 const NO_HEAD: &[u8] = b"";
 
@@ -239,6 +251,30 @@ fn keeps_the_earlier_of_fragments_that_clash(rt: HostRuntime) -> Result<(), Fail
             (2, Some(0), 0, 8, false),
         ],
     )?;
+    Ok(())
+}
+
+#[test]
+fn finds_datagrams_behind_cooked_headers(rt: HostRuntime) -> Result<(), Fail> {
+    let alloc = rt.alloc();
+    let whole = (Class::Whole, Some((0, None, 0, 13, true)));
+    let cases = [
+        (COOKED_V1, COOKED, HELLO, whole),
+        (COOKED_V2, COOKED_TYPE_FIRST, HELLO, whole),
+        (COOKED_V1, IPV4, HELLO, (Class::Other, None)),
+        (COOKED_V2, COOKED_CUT, NO_HEAD, (Class::Other, None)),
+        (COOKED_V2, COOKED_TYPE_FIRST, NO_HEAD, (Class::Bad, None)),
+    ];
+    for (link, head, datagram, (class, task)) in cases {
+        let mut made = no_frames(alloc, link);
+        if head.len() < 1024 && datagram.len() < 1024 {
+            add_frame(&mut made, head, datagram)?;
+        }
+        match task {
+            None => check(&rt, alloc, &made, &[class], &[])?,
+            Some(task) => check(&rt, alloc, &made, &[class], &[task])?,
+        }
+    }
     Ok(())
 }
 

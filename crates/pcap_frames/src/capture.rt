@@ -41,7 +41,7 @@ impl<T: Drop> From<AllocFailed<T>> for CaptureEnd {
 fn read(alloc: Global, bytes: &[u8]) -> Result<Capture, CaptureEnd>
     ensures { IfSome (answer_of result) (IsAnswer bytes.now) }
 {
-    let FileHeader { order, link } = file_header(bytes)?;
+    let FileHeader { order, nanos, link } = file_header(bytes)?;
     let most = (bytes.len() / RECORD_HEADER).min(MAX_FRAMES);
     let Ok(mut frames) = Vec::with_capacity(alloc, most) else {
         return Err(CaptureEnd::Memory);
@@ -59,7 +59,7 @@ fn read(alloc: Global, bytes: &[u8]) -> Result<Capture, CaptureEnd>
             Next::TooLong => return Err(CaptureEnd::Record { at: at as u64 }),
             Next::Tail(torn) => {
                 return Ok(Capture {
-                    nanos: false,
+                    nanos,
                     link,
                     frames,
                     torn,
@@ -69,11 +69,11 @@ fn read(alloc: Global, bytes: &[u8]) -> Result<Capture, CaptureEnd>
     }
 }
 
-/// The capture that a file in the pcap format, version 2.4, holds: its link type, its frames in the
-/// order of their records, and the number of bytes at its end that are no whole record.
+/// The capture that a file in the pcap format, version 2.4, holds: its unit of time, its link type, its
+/// frames in the order of their records, and the number of bytes at its end that are no whole record.
 ///
-/// The file's numbers may stand in either byte order, as its magic number tells. The time zone
-/// correction, the significant figures, the snapshot length and the high 16 bits of the network
+/// The file's numbers may stand in either byte order, and the fractions of its times may be microseconds
+/// or nanoseconds, as its magic number tells. The time zone correction, the significant figures, the snapshot length and the high 16 bits of the network
 /// field are not looked at. The frames keep the places of their bytes, and no byte is copied.
 ///
 /// A file that is no capture is refused for the first reason that holds: by `Header`, `Version` or

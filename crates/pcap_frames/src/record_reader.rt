@@ -1,5 +1,6 @@
-ghost use Rattle.std.specs.Prelude.{◌≡◌, ◌+◌, ◌≤◌, length, IfOk, IfErr, IfSome};
-ghost use Rattle.capture_terms.specs.Capture.{IsAnswer};
+ghost use Rattle.std.specs.Prelude.{◌≡◌, ◌+◌, ◌≤◌, length, None, IfOk, IfErr, IfSome, MatchOption};
+ghost use Rattle.capture_terms.specs.Capture.{HasMagic, has_nanos, IsAnswer};
+ghost use Rattle.capture_terms.specs.declared.capture.Endianness.TheVariants.{Little, Big};
 ghost use Rattle.capture_terms.specs.Numbers.{number16, number32};
 ghost use Rattle.pcap_frames.specs.Answer.{refusal_of};
 ghost use Rattle.pcap_frames.specs.Reader.{IsAccepted, IsNext};
@@ -8,7 +9,9 @@ use crate::capture::CaptureEnd;
 use byteorder::{BigEndian, ByteOrder, LittleEndian};
 use capture_terms::{Endianness, Frame, Link};
 
-const MAGIC: u32 = 0xa1b2c3d4;
+const MICROSECONDS: u32 = 0xa1b2c3d4;
+
+const NANOSECONDS: u32 = 0xa1b23c4d;
 
 const FILE_HEADER: usize = 24;
 
@@ -17,10 +20,12 @@ pub const RECORD_HEADER: usize = 16;
 
 const MAX_LENGTH: u32 = 262144;
 
-/// What a file header says: the byte order of the file's numbers, and the link type.
+/// What a file header says: the byte order of the file's numbers, whether the fractions of its times are
+/// nanoseconds, and the link type.
 #[derive(Clone, Copy, Debug, PartialEq, Eq)]
 pub struct FileHeader {
     pub order: Endianness,
+    pub nanos: bool,
     pub link: u16,
 }
 
@@ -54,6 +59,33 @@ fn u32_at(order: Endianness, bytes: &[u8], at: usize) -> u32
     }
 }
 
+// Whether the fractions of times are nanoseconds, as a magic number in this byte order tells.
+fn unit_in(order: Endianness, bytes: &[u8]) -> Option<bool>
+    requires { 4 ≤ length bytes.now }
+    ensures { MatchOption result (¬ HasMagic order bytes.now) (λ nanos. HasMagic order bytes.now × (nanos ≡ has_nanos order bytes.now)) }
+{
+    match u32_at(order, bytes, 0) {
+        MICROSECONDS => Some(false),
+        NANOSECONDS => Some(true),
+        _ => None,
+    }
+}
+
+// The byte order in which the file begins with a magic number, and what that number says of times.
+fn magic(bytes: &[u8]) -> Option<(Endianness, bool)>
+    requires { 4 ≤ length bytes.now }
+    ensures known { IfSome result (λ found. HasMagic found.0 bytes.now × (found.1 ≡ has_nanos found.0 bytes.now)) }
+    ensures unknown { result ≡ None → (¬ HasMagic Little bytes.now) × (¬ HasMagic Big bytes.now) }
+{
+    if let Some(nanos) = unit_in(Endianness::Little, bytes) {
+        return Some((Endianness::Little, nanos));
+    }
+    if let Some(nanos) = unit_in(Endianness::Big, bytes) {
+        return Some((Endianness::Big, nanos));
+    }
+    None
+}
+
 /// The header at the head of a file, or why it is refused.
 pub fn file_header(bytes: &[u8]) -> Result<FileHeader, CaptureEnd>
     ensures accepted { IfOk result (IsAccepted bytes.now) }
@@ -64,11 +96,7 @@ pub fn file_header(bytes: &[u8]) -> Result<FileHeader, CaptureEnd>
             at: bytes.len() as u64,
         });
     }
-    let order = if u32_at(Endianness::Little, bytes, 0) == MAGIC {
-        Endianness::Little
-    } else if u32_at(Endianness::Big, bytes, 0) == MAGIC {
-        Endianness::Big
-    } else {
+    let Some((order, nanos)) = magic(bytes) else {
         return Err(CaptureEnd::Header { at: 0 });
     };
     if u16_at(order, bytes, 4) != 2 || u16_at(order, bytes, 6) != 4 {
@@ -78,7 +106,7 @@ pub fn file_header(bytes: &[u8]) -> Result<FileHeader, CaptureEnd>
     if Link::numbered(link).is_none() {
         return Err(CaptureEnd::Link { number: link });
     }
-    Ok(FileHeader { order, link })
+    Ok(FileHeader { order, nanos, link })
 }
 
 /// What stands at a place of the file.

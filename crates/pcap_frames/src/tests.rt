@@ -15,6 +15,20 @@ const BIG: &[u8] =
 const RAW_IP: &[u8] =
     b"\xd4\xc3\xb2\xa1\x02\x00\x04\x00\0\0\0\0\0\0\0\0\x00\x00\x04\x00\x65\x00\x00\x00";
 
+/// The same as the first, of times in nanoseconds.
+const NANOS: &[u8] =
+    b"\x4d\x3c\xb2\xa1\x02\x00\x04\x00\0\0\0\0\0\0\0\0\x00\x00\x04\x00\x01\x00\x00\x00";
+
+const NANOS_BIG: &[u8] =
+    b"\xa1\xb2\x3c\x4d\x00\x02\x00\x04\0\0\0\0\0\0\0\0\x00\x04\x00\x00\x00\x00\x00\x01";
+
+/// The same as the first, of cooked packets, and of those of version 2.
+const COOKED_V1: &[u8] =
+    b"\xd4\xc3\xb2\xa1\x02\x00\x04\x00\0\0\0\0\0\0\0\0\x00\x00\x04\x00\x71\x00\x00\x00";
+
+const COOKED_V2: &[u8] =
+    b"\xd4\xc3\xb2\xa1\x02\x00\x04\x00\0\0\0\0\0\0\0\0\x00\x00\x04\x00\x14\x01\x00\x00";
+
 /// The same as the first, with more in the high half of the network field.
 const HIGH_NETWORK: &[u8] =
     b"\xd4\xc3\xb2\xa1\x02\x00\x04\x00\0\0\0\0\0\0\0\0\x00\x00\x04\x00\x01\x00\x07\x00";
@@ -70,10 +84,15 @@ fn many(alloc: Global, count: usize, rest: &[u8]) -> Result<Vec<u8>, AllocError>
     Ok(bytes)
 }
 
-/// The link type, the number of frames and that of torn bytes.
-fn shape(alloc: Global, bytes: &[u8]) -> Result<(u16, usize, u64), CaptureEnd> {
+/// Whether times are in nanoseconds, the link type, the number of frames and that of torn bytes.
+fn shape(alloc: Global, bytes: &[u8]) -> Result<(bool, u16, usize, u64), CaptureEnd> {
     let capture = frames(alloc, bytes)?;
-    Ok((capture.link, capture.frames.len(), capture.torn))
+    Ok((
+        capture.nanos,
+        capture.link,
+        capture.frames.len(),
+        capture.torn,
+    ))
 }
 
 #[test]
@@ -81,14 +100,14 @@ fn reads_and_refuses_captures(rt: HostRuntime) -> Result<(), Fail> {
     let alloc = rt.alloc();
     for (parts, wanted) in [
         // a file header alone, one frame in either byte order, raw IP, and high bits of the network
-        ([LITTLE, NONE, NONE, NONE], Ok((1, 0, 0))),
-        ([LITTLE, RECORD_LITTLE, FRAME, NONE], Ok((1, 1, 0))),
-        ([BIG, RECORD_BIG, FRAME, NONE], Ok((1, 1, 0))),
-        ([RAW_IP, RECORD_LITTLE, FRAME, NONE], Ok((101, 1, 0))),
-        ([HIGH_NETWORK, NONE, NONE, NONE], Ok((1, 0, 0))),
+        ([LITTLE, NONE, NONE, NONE], Ok((false, 1, 0, 0))),
+        ([LITTLE, RECORD_LITTLE, FRAME, NONE], Ok((false, 1, 1, 0))),
+        ([BIG, RECORD_BIG, FRAME, NONE], Ok((false, 1, 1, 0))),
+        ([RAW_IP, RECORD_LITTLE, FRAME, NONE], Ok((false, 101, 1, 0))),
+        ([HIGH_NETWORK, NONE, NONE, NONE], Ok((false, 1, 0, 0))),
         // a tail of 10 bytes of a record header, and one of a record header and 4 bytes of 5
-        ([LITTLE, RECORD_LITTLE, FRAME, TEN], Ok((1, 1, 10))),
-        ([LITTLE, FIVE, FOUR, NONE], Ok((1, 0, 20))),
+        ([LITTLE, RECORD_LITTLE, FRAME, TEN], Ok((false, 1, 1, 10))),
+        ([LITTLE, FIVE, FOUR, NONE], Ok((false, 1, 0, 20))),
         // 23 bytes, another magic number, version 2.3, link type 147
         (
             [SHORT, NONE, NONE, NONE],
@@ -116,15 +135,29 @@ fn reads_and_refuses_captures(rt: HostRuntime) -> Result<(), Fail> {
 }
 
 #[test]
+fn reads_nanoseconds_and_cooked_links(rt: HostRuntime) -> Result<(), Fail> {
+    let alloc = rt.alloc();
+    for (parts, wanted) in [
+        ([NANOS, RECORD_LITTLE, FRAME], (true, 1, 1, 0)),
+        ([NANOS_BIG, RECORD_BIG, FRAME], (true, 1, 1, 0)),
+        ([COOKED_V1, RECORD_LITTLE, FRAME], (false, 113, 1, 0)),
+        ([COOKED_V2, RECORD_LITTLE, FRAME], (false, 276, 1, 0)),
+    ] {
+        assert_eq!(rt; shape(alloc, &joined(alloc, &parts)?), Ok(wanted));
+    }
+    Ok(())
+}
+
+#[test]
 fn counts_frames(rt: HostRuntime) -> Result<(), Fail> {
     let alloc = rt.alloc();
     assert_eq!(rt;
         shape(alloc, &many(alloc, 262144, b"")?),
-        Ok((1, 262144, 0))
+        Ok((false, 1, 262144, 0))
     );
     assert_eq!(rt;
         shape(alloc, &many(alloc, 262144, FIVE)?),
-        Ok((1, 262144, 16))
+        Ok((false, 1, 262144, 16))
     );
     assert_eq!(rt;
         shape(alloc, &many(alloc, 262144, LONG)?),

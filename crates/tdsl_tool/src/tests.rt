@@ -142,16 +142,15 @@ const DATAGRAM: &[u8] = &[
 // and the frame's own are given.
 fn one_frame(
     alloc: Global,
-    link: u8,
+    link: u16,
     length: u8,
     original: u8,
     before: &[u8],
     behind: &[u8],
 ) -> Result<Vec<u8>, AllocError> {
-    let mut capture = HEADER.to_vec(alloc)?;
-    if capture.len() > 20 {
-        capture[20] = link;
-    }
+    let mut capture = HEADER[..20].to_vec(alloc)?;
+    capture.extend_from_slice(&link.to_le_bytes())?;
+    capture.extend_from_slice(&[0, 0])?;
     capture.extend_from_slice(&[1, 0, 0, 0, 0, 0, 0, 0, length, 0, 0, 0, original, 0, 0, 0])?;
     capture.extend_from_slice(before)?;
     capture.extend_from_slice(behind)?;
@@ -398,6 +397,38 @@ fn link_headers_and_byte_orders_are_read(rt: HostRuntime) -> Result<(), Fail> {
             got.out.as_slice(),
             report(alloc, counts, findings)?.as_slice()
         );
+        assert_eq!(rt; got.faults.as_slice(), b"".as_slice());
+    }
+    Ok(())
+}
+
+// The header and the record header of `HELLO` in a capture of nanoseconds.
+const NANOSECONDS: [u8; 40] = [
+    0x4d, 0x3c, 0xb2, 0xa1, 2, 0, 4, 0, 0, 0, 0, 0, 0, 0, 0, 0, 0, 0, 4, 0, 1, 0, 0, 0, 1, 0, 0, 0,
+    0, 0, 0, 0, 47, 0, 0, 0, 47, 0, 0, 0,
+];
+
+// Cooked headers of both versions.
+const COOKED_V1: &[u8] = &[0, 0, 0, 1, 0, 6, 2, 0, 0, 0, 0, 1, 0, 0, 8, 0];
+
+const COOKED_V2: &[u8] = &[8, 0, 0, 0, 0, 0, 0, 1, 0, 1, 0, 6, 2, 0, 0, 0, 0, 1, 0, 0];
+
+#[test]
+fn nanoseconds_and_cooked_headers_are_read(rt: HostRuntime) -> Result<(), Fail> {
+    let alloc = rt.alloc();
+    let want = report(
+        alloc,
+        [1, 0, 0, 0, 1, 0, 0, 0, 1, 0, 1],
+        "finding 0 greet 8\n",
+    )?;
+    let mut nanoseconds = NANOSECONDS.to_vec(alloc)?;
+    nanoseconds.extend_from_slice(&HELLO[16..])?;
+    let cooked_v1 = one_frame(alloc, 113, 49, 49, COOKED_V1, DATAGRAM)?;
+    let cooked_v2 = one_frame(alloc, 276, 53, 53, COOKED_V2, DATAGRAM)?;
+    for capture in [&nanoseconds, &cooked_v1, &cooked_v2] {
+        let got = inspected(alloc, &COMMAND, GREET, capture, 0)?;
+        assert_eq!(rt; got.status, 0);
+        assert_eq!(rt; got.out.as_slice(), want.as_slice());
         assert_eq!(rt; got.faults.as_slice(), b"".as_slice());
     }
     Ok(())
