@@ -1,7 +1,11 @@
 //! Inspects captures of packets: `inspect RULES CAPTURE` writes a report of what the rules find.
 #![tactic(auto)]
 
+#[cfg(test)]
+mod failing_tests;
 mod findings;
+#[cfg(test)]
+mod hostile_tests;
 mod inspection;
 mod laws;
 mod members;

@@ -4,16 +4,16 @@ use byte_ends::{MemoryFiles, MemorySink};
 use std::alloc::{AllocError, Global};
 use std::test::Fail;
 
-const GREET: &[u8] = b"rule greet proto udp dport 53 has \"hello\"";
+pub(crate) const GREET: &[u8] = b"rule greet proto udp dport 53 has \"hello\"";
 
-const SEAM: &[u8] = b"rule seam proto icmp has \"ghij\"";
+pub(crate) const SEAM: &[u8] = b"rule seam proto icmp has \"ghij\"";
 
-const HEADER: [u8; 24] = [
+pub(crate) const HEADER: [u8; 24] = [
     0xd4, 0xc3, 0xb2, 0xa1, 2, 0, 4, 0, 0, 0, 0, 0, 0, 0, 0, 0, 0, 0, 4, 0, 1, 0, 0, 0,
 ];
 
 // A record with an UDP datagram to port 53 that carries "hello".
-const HELLO: [u8; 63] = [
+pub(crate) const HELLO: [u8; 63] = [
     1, 0, 0, 0, 0, 0, 0, 0, 47, 0, 0, 0, 47, 0, 0, 0, 2, 0, 0, 0, 0, 2, 2, 0, 0, 0, 0, 1, 8, 0,
     0x45, 0, 0, 33, 0, 1, 0, 0, 0x40, 17, 0, 0, 10, 0, 0, 1, 192, 0, 2, 1, 0x0f, 0xa0, 0, 53, 0,
     13, 0, 0, 104, 101, 108, 108, 111,
@@ -21,25 +21,25 @@ const HELLO: [u8; 63] = [
 
 // A fragment of an ICMP datagram.
 #[derive(Clone, Copy)]
-struct Fragment {
-    id: u8,
-    at: u16,
-    more: bool,
-    data: &'static [u8],
+pub(crate) struct Fragment {
+    pub(crate) id: u8,
+    pub(crate) at: u16,
+    pub(crate) more: bool,
+    pub(crate) data: &'static [u8],
 }
 
-fn piece(id: u8, at: u16, more: bool, data: &'static [u8]) -> Fragment {
+pub(crate) fn piece(id: u8, at: u16, more: bool, data: &'static [u8]) -> Fragment {
     Fragment { id, at, more, data }
 }
 
 #[derive(Drop)]
-struct Run {
-    status: u8,
-    out: Vec<u8>,
-    faults: Vec<u8>,
+pub(crate) struct Run {
+    pub(crate) status: u8,
+    pub(crate) out: Vec<u8>,
+    pub(crate) faults: Vec<u8>,
 }
 
-fn inspected(
+pub(crate) fn inspected(
     alloc: Global,
     words: &[&str],
     rules: &[u8],
@@ -66,28 +66,43 @@ fn inspected(
     })
 }
 
+// Adds the record of a fragment of at most 200 bytes that was captured at this time.
+pub(crate) fn add_fragment(
+    capture: &mut Vec<u8>,
+    seconds: u32,
+    fraction: u32,
+    fragment: Fragment,
+) -> Result<(), AllocError> {
+    let length = (34 + fragment.data.len().min(200)) as u8;
+    let flags = fragment.at / 8 % 8192;
+    let more = if fragment.more { 0x20 } else { 0 };
+    capture.extend_from_slice(&seconds.to_le_bytes())?;
+    capture.extend_from_slice(&fraction.to_le_bytes())?;
+    capture.extend_from_slice(&[length, 0, 0, 0, length, 0, 0, 0])?;
+    capture.extend_from_slice(&[2, 0, 0, 0, 0, 2, 2, 0, 0, 0, 0, 1, 8, 0])?;
+    capture.extend_from_slice(&[0x45, 0, 0, length - 14, 0, fragment.id])?;
+    capture.extend_from_slice(&[(flags / 256) as u8 + more, (flags % 256) as u8, 64, 1, 0, 0])?;
+    capture.extend_from_slice(&[10, 0, 0, 1, 192, 0, 2, 1])?;
+    capture.extend_from_slice(fragment.data)
+}
+
+// A capture of fragments, one a second.
 fn fragments(alloc: Global, list: &[Fragment]) -> Result<Vec<u8>, AllocError> {
     let mut capture = HEADER.to_vec(alloc)?;
-    let mut number = 0u8;
+    let mut seconds = 0u32;
     for fragment in list {
-        let length = (34 + fragment.data.len().min(200)) as u8;
-        let flags = fragment.at / 8 % 8192;
-        let more = if fragment.more { 0x20 } else { 0 };
-        capture.extend_from_slice(&[
-            number, 0, 0, 0, 0, 0, 0, 0, length, 0, 0, 0, length, 0, 0, 0,
-        ])?;
-        capture.extend_from_slice(&[2, 0, 0, 0, 0, 2, 2, 0, 0, 0, 0, 1, 8, 0])?;
-        capture.extend_from_slice(&[0x45, 0, 0, length - 14, 0, fragment.id])?;
-        capture.extend_from_slice(&[(flags / 256) as u8 + more, (flags % 256) as u8, 64, 1, 0, 0])?;
-        capture.extend_from_slice(&[10, 0, 0, 1, 192, 0, 2, 1])?;
-        capture.extend_from_slice(fragment.data)?;
-        number = number.wrapping_add(1);
+        add_fragment(&mut capture, seconds, 0, *fragment)?;
+        seconds = seconds.wrapping_add(1);
     }
     Ok(capture)
 }
 
 // The report with these counts and finding lines.
-fn report(alloc: Global, counts: [u8; 11], findings: &str) -> Result<Vec<u8>, AllocError> {
+pub(crate) fn report(
+    alloc: Global,
+    counts: [u32; 11],
+    findings: &str,
+) -> Result<Vec<u8>, AllocError> {
     let words = [
         "frames",
         "other",
@@ -109,7 +124,11 @@ fn report(alloc: Global, counts: [u8; 11], findings: &str) -> Result<Vec<u8>, Al
     Ok(text.as_bytes().to_vec(alloc)?)
 }
 
-const COMMAND: [&str; 3] = ["inspect", "r", "c"];
+// The line of a fault of usage.
+pub(crate) const USAGE: &str =
+    "usage: inspect|journal [--workers N] [--findings N] RULES CAPTURE | make SEED FRAMES | trial [--workers N] SEED FRAMES\n";
+
+pub(crate) const COMMAND: [&str; 3] = ["inspect", "r", "c"];
 
 // The header and the record header of `HELLO` with the highest byte of each number first.
 const HIGH_FIRST: [u8; 40] = [
@@ -140,7 +159,7 @@ const DATAGRAM: &[u8] = &[
 
 // A capture of one frame, whose bytes are in two pieces. Its link type, the length that was captured
 // and the frame's own are given.
-fn one_frame(
+pub(crate) fn one_frame(
     alloc: Global,
     link: u16,
     length: u8,
@@ -193,7 +212,7 @@ fn gives(
     alloc: Global,
     rules: &[u8],
     list: &[Fragment],
-    counts: [u8; 11],
+    counts: [u32; 11],
     findings: &str,
 ) -> Result<bool, AllocError> {
     let capture = fragments(alloc, list)?;
@@ -262,8 +281,6 @@ fn fragments_make_datagrams(rt: HostRuntime) -> Result<(), Fail> {
 #[test]
 fn other_words_are_a_fault_of_usage(rt: HostRuntime) -> Result<(), Fail> {
     let alloc = rt.alloc();
-    let line =
-        "usage: inspect|journal [--workers N] [--findings N] RULES CAPTURE | make SEED FRAMES | trial [--workers N] SEED FRAMES\n";
     let lists: [&[&str]; 7] = [
         &["inspect", "--workers", "17", "r", "c"],
         &["inspect", "r"],
@@ -277,7 +294,7 @@ fn other_words_are_a_fault_of_usage(rt: HostRuntime) -> Result<(), Fail> {
         let got = inspected(alloc, words, GREET, &HEADER, 0)?;
         assert_eq!(rt; got.status, 1);
         assert_eq!(rt; got.out.as_slice(), b"".as_slice());
-        assert_eq!(rt; got.faults.as_slice(), line.as_bytes());
+        assert_eq!(rt; got.faults.as_slice(), USAGE.as_bytes());
     }
     Ok(())
 }
@@ -435,7 +452,7 @@ fn nanoseconds_and_cooked_headers_are_read(rt: HostRuntime) -> Result<(), Fail> 
 }
 
 // A capture that repeats a record.
-fn repeated(alloc: Global, record: &[u8], count: u32) -> Result<Vec<u8>, AllocError> {
+pub(crate) fn repeated(alloc: Global, record: &[u8], count: u32) -> Result<Vec<u8>, AllocError> {
     let mut capture = HEADER.to_vec(alloc)?;
     for _ in 0..count {
         capture.extend_from_slice(record)?;
