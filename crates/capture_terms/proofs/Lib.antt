@@ -2,6 +2,7 @@ pub mod Answers
 pub mod Exists
 pub mod Filters
 pub mod Firsts
+pub mod Generations
 pub mod Members
 pub mod Numbered
 pub mod Places

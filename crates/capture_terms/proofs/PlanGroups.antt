@@ -139,7 +139,7 @@ plan_inhabited kinds number lt =
     (task.0, task.1, task.2 ∙ number_of_group groups it.0 number no_group are.differ lt it.2)
   where
     no_group : Group
-    no_group = record { header = record { source = 0; destination = 0; protocol = 0 }; id = 0 }
+    no_group = record { header = record { source = 0; destination = 0; protocol = 0 }; id = 0; generation = 0 }
 
 -- What the tasks of one group have.
 
@@ -176,8 +176,8 @@ kinds_grouped bytes kinds sound = record {
   bounded = all_bounded bytes (groups_of kinds) (tasks_of kinds) sound (tasks_together kinds);
 }
 
-pub plan_grouped : (bytes : List ℕ) (capture : Capture) (plan : Plan) → IsClassifiable bytes capture → IsPlan bytes capture plan → AreGrouped plan.tasks.items plan.groups.items
-plan_grouped bytes capture plan fine is =
-    let kinds : List Kind = kinds_of bytes (contents_of capture) in
+pub plan_grouped : (bytes : List ℕ) (capture : Capture) (window : ℕ) (plan : Plan) → IsClassifiable bytes capture → IsPlan bytes capture window plan → AreGrouped plan.tasks.items plan.groups.items
+plan_grouped bytes capture window plan fine is =
+    let kinds : List Kind = kinds_of bytes window (contents_of capture) in
     subst (λ (tasks : List Task). AreGrouped tasks plan.groups.items) (sym is.tasks)
-    (subst (λ (groups : List Group). AreGrouped (tasks_of kinds) groups) (sym is.groups) (kinds_grouped bytes kinds (tasks_fine (length bytes) kinds (plan_kinds bytes capture fine))))
+    (subst (λ (groups : List Group). AreGrouped (tasks_of kinds) groups) (sym is.groups) (kinds_grouped bytes kinds (tasks_fine (length bytes) kinds (plan_kinds bytes capture window fine))))

@@ -1,6 +1,6 @@
 -- The tasks of a plan's datagram lie in the file and fill its data.
 use Rattle.std.proofs.Common.{◌≡◌, ℕ, zero, suc, ◌+◌, ◌<◌, ◌≤◌, Bool, true, false, List, [], ◌∷◌, ◌++◌, Option, None, Some, refl, sym, ◌∙◌, ap, subst, inl, inr, arith, length, get_or, take, drop, length-drop, ◌-◌}
-use Rattle.std.specs.Prelude.{All, AllPairs, Contains, option_to_list, fold, nat_lt, ◌==◌, ◌&&◌, ◌||◌, if◌then◌else◌}
+use Rattle.std.specs.Prelude.{◌*◌, All, AllPairs, Contains, option_to_list, fold, nat_lt, ◌==◌, ◌&&◌, ◌||◌, if◌then◌else◌, map}
 use Rattle.std.specs.List.{list_any, position_or_len}
 use Rattle.std.specs.Option.{option_map_or}
 use Rattle.std.proofs.lemmas.Bool.{cases_eq, cases_lt}
@@ -17,14 +17,14 @@ use Rattle.capture_terms.specs.declared.capture.Capture.{Capture}
 use Rattle.capture_terms.specs.declared.datagram.Class.{Class}
 use Rattle.capture_terms.specs.declared.datagram.Class.TheVariants as class
 use Rattle.capture_terms.specs.declared.datagram.Kind.{Kind}
-use Rattle.capture_terms.specs.declared.datagram.Kind.TheVariants.{Whole, Fragment}
+use Rattle.capture_terms.specs.declared.datagram.Kind.TheVariants.{Other, Bad, Cut, Whole, Fragment}
 use Rattle.capture_terms.specs.declared.datagram.Piece.{Piece}
 use Rattle.capture_terms.specs.declared.plan.Group.{Group}
 use Rattle.capture_terms.specs.declared.plan.Plan.{Plan}
 use Rattle.capture_terms.specs.declared.plan.Task.{Task}
-use Rattle.capture_terms.specs.Classes.{kind_of}
+use Rattle.capture_terms.specs.Generations.{Timed, kind_behind, kinds_behind, in_generations}
 use Rattle.capture_terms.specs.Kept.{group_of, is_same_group, classes_of, kept_of, kept_among, kept_piece}
-use Rattle.capture_terms.specs.Plan.{group_number, with_group_of, groups_of, task_of, task_at, tasks_from, tasks_of, kinds_of, IsClassifiable, IsPlan}
+use Rattle.capture_terms.specs.Plan.{group_number, with_group_of, groups_of, task_of, task_at, tasks_from, tasks_of, timed, kinds_of, IsClassifiable, IsPlan}
 use Rattle.capture_terms.specs.Datagram.{ArePacked, end_of_task, size_of, is_member, members, is_complete, IsWholeAt, IsDatagramAt, IsSound, holds, byte_at, payload_of}
 use Rattle.capture_terms.proofs.Filters.{contains_get, all_filter, all_pass, any_found}
 use Rattle.capture_terms.proofs.PlanSound.{KindSound, kind_sound, TaskSound}
@@ -183,8 +183,25 @@ module _ (bytes : List ℕ) (groups : List Group) (tasks : List Task) (sound : A
     | inr group ↦ subst (IsSound bytes) (sym group.is) (group_sound group.group group.complete)
   ]
 
-pub plan_kinds : (bytes : List ℕ) (capture : Capture) → IsClassifiable bytes capture → All (KindSound (length bytes)) (kinds_of bytes (contents_of capture))
-plan_kinds bytes capture fine = All-map (KindSound (length bytes)) (kind_of (link_numbered capture.link) bytes) capture.frames.items (λ k d lt. kind_sound (link_numbered capture.link) bytes (get_or capture.frames.items k d) (fine.within k d lt))
+-- a fragment keeps its places in its generation
+behind_sound : (end window : ℕ) (before : List Timed) (time : ℕ) (kind : Kind) → KindSound end kind → KindSound end (kind_behind window before time kind)
+behind_sound end window before time Other sound = sound
+behind_sound end window before time Bad sound = sound
+behind_sound end window before time Cut sound = sound
+behind_sound end window before time (Whole piece) sound = sound
+behind_sound end window before time (Fragment piece) sound = (record { there = sound.0.there; short = sound.0.short }, sound.1)
+
+all_behind_sound : (end window : ℕ) (before frames : List Timed) → All (λ (f : Timed). KindSound end f.kind) frames → All (KindSound end) (kinds_behind window before frames)
+all_behind_sound end window before [] sound = λ k d lt. absurd (omega arith)
+all_behind_sound end window before (f ∷ frames) sound =
+    All-cons (KindSound end) (kind_behind window before f.time f.kind) (kinds_behind window (before ++ f ∷ []) frames)
+    (behind_sound end window before f.time f.kind (sound 0 f (omega arith)))
+    (all_behind_sound end window (before ++ f ∷ []) frames (λ k d lt. sound (suc k) d (omega arith)))
+
+pub plan_kinds : (bytes : List ℕ) (capture : Capture) (window : ℕ) → IsClassifiable bytes capture → All (KindSound (length bytes)) (kinds_of bytes window (contents_of capture))
+unfolding in_generations
+plan_kinds bytes capture window fine = all_behind_sound (length bytes) (window * 1000000000) [] (map (timed bytes (contents_of capture)) capture.frames.items)
+    (All-map (λ (f : Timed). KindSound (length bytes) f.kind) (timed bytes (contents_of capture)) capture.frames.items (λ k d lt. kind_sound (link_numbered capture.link) bytes (get_or capture.frames.items k d) (fine.within k d lt)))
 
 pub tasks_fine : (end : ℕ) (kinds : List Kind) → All (KindSound end) kinds → All (TaskSound end) (tasks_of kinds)
 unfolding tasks_of groups_of kept_of
@@ -194,18 +211,18 @@ pub tasks_together : (kinds : List Kind) → AllPairs (Together (groups_of kinds
 unfolding tasks_of classes_of
 tasks_together kinds = together_all (groups_of kinds) 0 [] kinds
 
-pub datagram_is_sound : (bytes : List ℕ) (capture : Capture) (plan : Plan) (numbers : List ℕ) (datagram : List Task) → IsClassifiable bytes capture → IsPlan bytes capture plan → IsDatagramAt plan.tasks.items numbers datagram → IsSound bytes datagram
-datagram_is_sound bytes capture plan numbers datagram fine is at =
-    let kinds : List Kind = kinds_of bytes (contents_of capture) in
+pub datagram_is_sound : (bytes : List ℕ) (capture : Capture) (window : ℕ) (plan : Plan) (numbers : List ℕ) (datagram : List Task) → IsClassifiable bytes capture → IsPlan bytes capture window plan → IsDatagramAt plan.tasks.items numbers datagram → IsSound bytes datagram
+datagram_is_sound bytes capture window plan numbers datagram fine is at =
+    let kinds : List Kind = kinds_of bytes window (contents_of capture) in
     tasks_datagram bytes (groups_of kinds) plan.tasks.items
-    (subst (All (TaskSound (length bytes))) (sym is.tasks) (tasks_fine (length bytes) kinds (plan_kinds bytes capture fine)))
+    (subst (All (TaskSound (length bytes))) (sym is.tasks) (tasks_fine (length bytes) kinds (plan_kinds bytes capture window fine)))
     (subst (AllPairs (Together (groups_of kinds))) (sym is.tasks) (tasks_together kinds))
     numbers datagram at
 
 -- Single tasks.
 
-pub tasks_inside : (bytes : List ℕ) (capture : Capture) (plan : Plan) → IsClassifiable bytes capture → IsPlan bytes capture plan → All (TaskSound (length bytes)) plan.tasks.items
-tasks_inside bytes capture plan fine is = subst (All (TaskSound (length bytes))) (sym is.tasks) (tasks_fine (length bytes) (kinds_of bytes (contents_of capture)) (plan_kinds bytes capture fine))
+pub tasks_inside : (bytes : List ℕ) (capture : Capture) (window : ℕ) (plan : Plan) → IsClassifiable bytes capture → IsPlan bytes capture window plan → All (TaskSound (length bytes)) plan.tasks.items
+tasks_inside bytes capture window plan fine is = subst (All (TaskSound (length bytes))) (sym is.tasks) (tasks_fine (length bytes) (kinds_of bytes window (contents_of capture)) (plan_kinds bytes capture window fine))
 
 pub whole_payload : (bytes : List ℕ) (t : Task) → TaskSound (length bytes) t → t.group ≡ None → payload_of bytes (t ∷ []) ≡ take t.length (drop t.from bytes)
 whole_payload bytes t fine none =
@@ -248,9 +265,9 @@ module _ (groups : List Group) where
       one_frame : (t : Task) → task_at groups n c k ≡ Some t → t.frame ≡ n
       one_frame t is = All-contains (λ (u : Task). u.frame ≡ n) (option_to_list (task_at groups n c k)) t (head_frame n c k) (rw is (0, omega arith, refl))
 
-pub plan_ascends : (bytes : List ℕ) (capture : Capture) (plan : Plan) → IsPlan bytes capture plan → AllPairs (λ (s t : Task). s.frame < t.frame) plan.tasks.items
+pub plan_ascends : (bytes : List ℕ) (capture : Capture) (window : ℕ) (plan : Plan) → IsPlan bytes capture window plan → AllPairs (λ (s t : Task). s.frame < t.frame) plan.tasks.items
 unfolding tasks_of
-plan_ascends bytes capture plan is = subst (AllPairs (λ (s t : Task). s.frame < t.frame)) (sym is.tasks) (ascend (kinds_of bytes (contents_of capture)))
+plan_ascends bytes capture window plan is = subst (AllPairs (λ (s t : Task). s.frame < t.frame)) (sym is.tasks) (ascend (kinds_of bytes window (contents_of capture)))
   where
     ascend : (kinds : List Kind) → AllPairs (λ (s t : Task). s.frame < t.frame) (tasks_from (groups_of kinds) 0 (classes_of kinds) kinds)
     ascend kinds = frames_ascend (groups_of kinds) 0 (classes_of kinds) kinds

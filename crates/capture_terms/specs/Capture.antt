@@ -1,7 +1,7 @@
 -- Captures in the pcap file format, version 2.4: a file header of 24 bytes, and packet records one
 -- behind the other. Ours alone are the accepted link types, the limits of 262,144, and what is done
 -- with a file that ends within a record.
-use Rattle.std.specs.Prelude.{◌≡◌, ℕ, ◌+◌, ◌%◌, ◌<◌, ◌≤◌, ◌⊎◌, ◌==◌, Bool, List, [], ◌∷◌, length, take, drop, Option, Some, None, IsSome, if◌then◌else◌}
+use Rattle.std.specs.Prelude.{◌≡◌, ℕ, ◌+◌, ◌*◌, ◌%◌, ◌<◌, ◌≤◌, ◌⊎◌, ◌==◌, Bool, List, [], ◌∷◌, length, take, drop, Option, Some, None, IsSome, if◌then◌else◌}
 use Rattle.capture_terms.specs.Numbers.{number16, number32}
 use Rattle.capture_terms.specs.declared.capture.Endianness.{Endianness}
 use Rattle.capture_terms.specs.declared.capture.Endianness.TheVariants.{Little, Big}
@@ -104,6 +104,10 @@ pub record HasFrames (order : Endianness) (bytes : List ℕ) (frames : List Fram
   pub accepted : IsAcceptedLink (link_of order bytes)
   pub records : AreRecords order bytes 24 frames end
   pub few : length frames ≤ 262144
+
+-- when a frame was captured, in nanoseconds, where fractions are nanoseconds, or else microseconds
+abbrev pub time_of : Bool → Frame → ℕ
+time_of nanos frame = frame.seconds * 1000000000 + frame.fraction * (if nanos then 1 else 1000)
 
 -- What a file is: a capture, or refused for the first reason that holds.
 

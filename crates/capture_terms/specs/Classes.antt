@@ -133,11 +133,12 @@ has_bad_data datagram = is_empty_fragment datagram || is_ragged_fragment datagra
 unfoldable pub is_cut : List ℕ → Bool
 is_cut datagram = nat_lt (length datagram) (total_length datagram)
 
--- the data of a datagram that begins at a place in the file
+-- the data of a datagram that begins at a place in the file. By itself it is of generation 0.
 unfoldable pub piece_of : ℕ → List ℕ → Piece
 piece_of at datagram = record {
   header = header_of datagram;
   id = identification datagram;
+  generation = 0;
   start = data_start datagram;
   length = data_length datagram;
   last = not (has_more_fragments datagram);

@@ -2,7 +2,7 @@
 -- and a later one is set aside whole, so that no order of work changes the outcome.
 use Rattle.std.specs.Prelude.{ℕ, ◌+◌, Bool, ◌&&◌, ◌||◌, ◌==◌, nat_lt, min, max, List, [], ◌∷◌, ◌++◌, Option, Some, None, option_to_list, if◌then◌else◌}
 use Rattle.std.specs.List.{list_any}
-use Rattle.capture_terms.specs.declared.datagram.Header.{Header}
+use Rattle.capture_terms.specs.Generations.{is_same_header}
 use Rattle.capture_terms.specs.declared.datagram.Piece.{Piece}
 use Rattle.capture_terms.specs.declared.plan.Group.{Group}
 use Rattle.capture_terms.specs.declared.datagram.Kind.{Kind}
@@ -10,18 +10,13 @@ use Rattle.capture_terms.specs.declared.datagram.Kind.TheVariants.{Other, Bad, C
 use Rattle.capture_terms.specs.declared.datagram.Class.{Class}
 use Rattle.capture_terms.specs.declared.datagram.Class.TheVariants as class
 
--- Fragments of one datagram have the same source, destination, protocol and identification (RFC 791,
--- section 3.2).
-
-abbrev pub is_same_header : Header → Header → Bool
-is_same_header g h =
-    (g.source == h.source) && ((g.destination == h.destination) && (g.protocol == h.protocol))
+-- Fragments of one datagram have one key and one generation.
 
 abbrev pub is_same_group : Group → Group → Bool
-is_same_group g h = is_same_header g.header h.header && (g.id == h.id)
+is_same_group g h = is_same_header g.header h.header && ((g.id == h.id) && (g.generation == h.generation))
 
 abbrev pub group_of : Piece → Group
-group_of piece = record { header = piece.header; id = piece.id }
+group_of piece = record { header = piece.header; id = piece.id; generation = piece.generation }
 
 -- the place behind a piece
 abbrev pub end_of : Piece → ℕ

@@ -1,7 +1,9 @@
 pub mod Capture
 pub mod Classes
 pub mod Datagram
+pub mod Generations
 pub mod Groups
 pub mod Kept
 pub mod Numbers
 pub mod Plan
+pub mod Worked

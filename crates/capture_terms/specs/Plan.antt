@@ -1,11 +1,13 @@
 -- The work that a capture gives: the class of each frame, a task for each whole datagram and each
 -- kept fragment, and the groups of the kept fragments.
-use Rattle.std.specs.Prelude.{◌≡◌, ℕ, ◌+◌, List, [], ◌∷◌, ◌++◌, Option, Some, None, option_to_list, if◌then◌else◌, fold, map, position, length, ◌≤◌, All}
+use Rattle.std.specs.Prelude.{◌≡◌, ℕ, ◌+◌, ◌*◌, List, [], ◌∷◌, ◌++◌, Option, Some, None, option_to_list, if◌then◌else◌, fold, map, position, length, ◌≤◌, All}
 use Rattle.std.specs.List.{list_any}
-use Rattle.capture_terms.specs.Capture.{Contents, contents_of, link_numbered, IsAcceptedLink, IsWithin}
+use Rattle.capture_terms.specs.Capture.{Contents, contents_of, link_numbered, time_of, IsAcceptedLink, IsWithin}
 use Rattle.capture_terms.specs.Classes.{kind_of}
+use Rattle.capture_terms.specs.Generations.{Timed, in_generations}
 use Rattle.capture_terms.specs.Kept.{group_of, is_same_group, classes_of, kept_of}
 use Rattle.capture_terms.specs.declared.capture.Capture.{Capture}
+use Rattle.capture_terms.specs.declared.capture.Frame.{Frame}
 use Rattle.capture_terms.specs.declared.datagram.Piece.{Piece}
 use Rattle.capture_terms.specs.declared.datagram.Kind.{Kind}
 use Rattle.capture_terms.specs.declared.datagram.Kind.TheVariants.{Whole, Fragment}
@@ -61,9 +63,16 @@ groups_of kinds = groups_among (kept_of kinds)
 unfoldable pub tasks_of : List Kind → List Task
 tasks_of kinds = tasks_from (groups_of kinds) 0 (classes_of kinds) kinds
 
--- what the frames of a capture are by themselves
-abbrev pub kinds_of : List ℕ → Contents → List Kind
-kinds_of bytes contents = map (kind_of (link_numbered contents.link) bytes) contents.frames
+-- what a frame is by itself, and when it was captured
+abbrev pub timed : List ℕ → Contents → Frame → Timed
+timed bytes contents frame = record {
+  time = time_of contents.nanos frame;
+  kind = kind_of (link_numbered contents.link) bytes frame;
+}
+
+-- what the frames of a capture are, each fragment in its generation. The window is in seconds.
+abbrev pub kinds_of : List ℕ → ℕ → Contents → List Kind
+kinds_of bytes window contents = in_generations (window * 1000000000) (map (timed bytes contents) contents.frames)
 
 -- a capture whose frames can be told: there are at most 262,144, and their bytes lie in the file
 pub record IsClassifiable (bytes : List ℕ) (capture : Capture) : Type 0 where
@@ -71,7 +80,8 @@ pub record IsClassifiable (bytes : List ℕ) (capture : Capture) : Type 0 where
   pub within : All (IsWithin bytes) capture.frames.items
   pub link : IsAcceptedLink capture.link
 
-pub record IsPlan (bytes : List ℕ) (capture : Capture) (plan : Plan) : Type 0 where
-  pub classes : plan.classes.items ≡ classes_of (kinds_of bytes (contents_of capture))
-  pub tasks : plan.tasks.items ≡ tasks_of (kinds_of bytes (contents_of capture))
-  pub groups : plan.groups.items ≡ groups_of (kinds_of bytes (contents_of capture))
+-- the plan is that of the capture, whose generations are parted by a window of so many seconds
+pub record IsPlan (bytes : List ℕ) (capture : Capture) (window : ℕ) (plan : Plan) : Type 0 where
+  pub classes : plan.classes.items ≡ classes_of (kinds_of bytes window (contents_of capture))
+  pub tasks : plan.tasks.items ≡ tasks_of (kinds_of bytes window (contents_of capture))
+  pub groups : plan.groups.items ≡ groups_of (kinds_of bytes window (contents_of capture))

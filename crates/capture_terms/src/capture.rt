@@ -1,5 +1,5 @@
-ghost use Rattle.std.specs.Prelude.{◌≡◌};
-ghost use Rattle.capture_terms.specs.Capture.{link_numbered};
+ghost use Rattle.std.specs.Prelude.{◌≡◌, ◌<◌, ◌^◌};
+ghost use Rattle.capture_terms.specs.Capture.{link_numbered, time_of};
 
 /// The order in which a file writes the bytes of its numbers.
 #[derive(Clone, Copy, Debug, PartialEq, Eq)]
@@ -53,6 +53,18 @@ pub struct Frame {
     pub length: u32,
     /// How many bytes it had on the wire. Nothing here looks at it.
     pub original: u32,
+}
+
+impl Frame {
+    /// When it was captured, in nanoseconds since 1970, where the fractions of the capture's times are
+    /// nanoseconds, or else microseconds. A fraction above a second counts as it is.
+    pub fn time(&self, nanos: bool) -> u64
+        ensures time { result ≡ time_of nanos self.now }
+        ensures early { result < 2 ^ 63 }
+    {
+        let unit = if nanos { 1 } else { 1000 };
+        u64::from(self.seconds) * 1_000_000_000 + u64::from(self.fraction) * unit
+    }
 }
 
 /// What a capture file says.

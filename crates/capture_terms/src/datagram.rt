@@ -12,6 +12,9 @@ pub struct Piece {
     pub header: Header,
     /// The identification, which the fragments of one datagram share.
     pub id: u16,
+    /// Which datagram of this header and identification a fragment belongs to, counted from 0 by the
+    /// times of the capture. It is 0 for a whole datagram, and before fragments are compared.
+    pub generation: u32,
     /// The place of the piece in the datagram's data. It is 0 for a whole datagram.
     pub start: u32,
     /// The number of its bytes.

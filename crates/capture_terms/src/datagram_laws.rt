@@ -15,7 +15,7 @@ pub fn packing_law()
 
 /// The tasks of a plan's datagram lie in the file and fill its data.
 pub fn datagram_law()
-    ensures { (bytes : List ℕ) (capture : Capture) (plan : Plan) (numbers : List ℕ) (datagram : List Task) → IsClassifiable bytes capture → IsPlan bytes capture plan → IsDatagramAt plan.tasks.items numbers datagram → IsSound bytes datagram }
+    ensures { (bytes : List ℕ) (capture : Capture) (window : ℕ) (plan : Plan) (numbers : List ℕ) (datagram : List Task) → IsClassifiable bytes capture → IsPlan bytes capture window plan → IsDatagramAt plan.tasks.items numbers datagram → IsSound bytes datagram }
 {}
 
 /// The numbers by which a datagram is asked for are those of its tasks, and of no others.
@@ -26,8 +26,8 @@ pub fn numbers_law()
 /// Each task's data lies in the file, the tasks stand in the order of their frames, and the data of a
 /// whole datagram is a piece of the file.
 pub fn task_law()
-    ensures inside { (bytes : List ℕ) (capture : Capture) (plan : Plan) → IsClassifiable bytes capture → IsPlan bytes capture plan → All (λ task. task.from + task.length ≤ length bytes) plan.tasks.items }
-    ensures short { (bytes : List ℕ) (capture : Capture) (plan : Plan) → IsClassifiable bytes capture → IsPlan bytes capture plan → All (λ task. end_of_task task ≤ 65535) plan.tasks.items }
-    ensures ascending { (bytes : List ℕ) (capture : Capture) (plan : Plan) → IsPlan bytes capture plan → AllPairs (λ s t. s.frame < t.frame) plan.tasks.items }
-    ensures whole { (bytes : List ℕ) (capture : Capture) (plan : Plan) → IsClassifiable bytes capture → IsPlan bytes capture plan → All (λ task. task.group ≡ None → payload_of bytes (task ∷ []) ≡ take task.length (drop task.from bytes)) plan.tasks.items }
+    ensures inside { (bytes : List ℕ) (capture : Capture) (window : ℕ) (plan : Plan) → IsClassifiable bytes capture → IsPlan bytes capture window plan → All (λ task. task.from + task.length ≤ length bytes) plan.tasks.items }
+    ensures short { (bytes : List ℕ) (capture : Capture) (window : ℕ) (plan : Plan) → IsClassifiable bytes capture → IsPlan bytes capture window plan → All (λ task. end_of_task task ≤ 65535) plan.tasks.items }
+    ensures ascending { (bytes : List ℕ) (capture : Capture) (window : ℕ) (plan : Plan) → IsPlan bytes capture window plan → AllPairs (λ s t. s.frame < t.frame) plan.tasks.items }
+    ensures whole { (bytes : List ℕ) (capture : Capture) (window : ℕ) (plan : Plan) → IsClassifiable bytes capture → IsPlan bytes capture window plan → All (λ task. task.group ≡ None → payload_of bytes (task ∷ []) ≡ take task.length (drop task.from bytes)) plan.tasks.items }
 {}

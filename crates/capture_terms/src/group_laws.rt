@@ -8,7 +8,7 @@ ghost use Rattle.capture_terms.specs.declared.plan.Task.{Task};
 
 /// The tasks of a plan are grouped by its groups, and those of a group can stand in one datagram.
 pub fn group_law()
-    ensures { (bytes : List ℕ) (capture : Capture) (plan : Plan) → IsClassifiable bytes capture → IsPlan bytes capture plan → AreGrouped plan.tasks.items plan.groups.items }
+    ensures { (bytes : List ℕ) (capture : Capture) (window : ℕ) (plan : Plan) → IsClassifiable bytes capture → IsPlan bytes capture window plan → AreGrouped plan.tasks.items plan.groups.items }
 {}
 
 /// The members of a group are the tasks that name it, and a complete group has a task that is last

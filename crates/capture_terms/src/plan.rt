@@ -18,11 +18,14 @@ pub struct Task {
     pub last: bool,
 }
 
-/// The fragments that share a source, a destination, a protocol and an identification.
+/// The fragments that share a source, a destination, a protocol and an identification, and of these
+/// one generation.
 #[derive(Clone, Copy, Debug, PartialEq, Eq, PartialOrd, Ord)]
 pub struct Group {
     pub header: Header,
     pub id: u16,
+    /// The number of the generation, counted from 0: how often the identification was used before.
+    pub generation: u32,
 }
 
 /// The work that a capture gives.
