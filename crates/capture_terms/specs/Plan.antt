@@ -85,3 +85,10 @@ pub record IsPlan (bytes : List ℕ) (capture : Capture) (window : ℕ) (plan : 
   pub classes : plan.classes.items ≡ classes_of (kinds_of bytes window (contents_of capture))
   pub tasks : plan.tasks.items ≡ tasks_of (kinds_of bytes window (contents_of capture))
   pub groups : plan.groups.items ≡ groups_of (kinds_of bytes window (contents_of capture))
+
+-- the plan is that of some capture in the file, parted by some window
+pub record IsPlanned (bytes : List ℕ) (plan : Plan) : Type 0 where
+  pub capture : Capture
+  pub window : ℕ
+  pub fine : IsClassifiable bytes capture
+  pub is : IsPlan bytes capture window plan
