@@ -1,9 +1,14 @@
 -- The words of the command line, and the commands that they are. Both are this project's own.
-use Rattle.std.specs.Prelude.{ℕ, Bool, ◌&&◌, not, ◌==◌, List, [], ◌∷◌, length, take, Option, Some, None, if◌then◌else◌, codes}
+use Rattle.std.specs.Prelude.{ℕ, Bool, ◌&&◌, not, ◌==◌, nat_le, List, [], ◌∷◌, length, take, Option, Some, None, is_none, if◌then◌else◌, codes}
+use Rattle.std.specs.Fmt.{decimal}
+use Rattle.std.specs.Option.{option_map, option_map_or, unwrap_or}
 use Rattle.std.specs.Str.{bytes_eq}
+use Rattle.std.specs.Str.Parse.{digits_value}
 use Rattle.command_words.specs.declared.command.Command.{Command}
 use Rattle.command_words.specs.declared.command.Command.TheVariants.{Unknown, Inspect}
 use Rattle.command_words.specs.declared.command.FileNames.{FileNames}
+use Rattle.command_words.specs.declared.command.Settings.{Settings}
+use Rattle.command_words.specs.declared.options.Options.{Options}
 
 -- the names of a rule file and a capture file
 pub record Names : Type 0 where
@@ -13,37 +18,60 @@ pub record Names : Type 0 where
 abbrev pub names_of : FileNames → Names
 names_of names = record { rules = names.rules.now; capture = names.capture.now }
 
--- what is asked of the program: nothing that it knows, or to inspect the files of these names, with at
--- most so many findings
+-- what is asked of the program: nothing that it knows, or to inspect the files of these names with
+-- these settings
 pub data Asked : Type 0 where
   unknown : Asked
-  inspect : Names → ℕ → Asked
+  inspect : Names → Settings → Asked
 
 abbrev pub asked_of : Command → Asked
 asked_of Unknown = unknown
-asked_of (Inspect names findings) = inspect (names_of names) findings
+asked_of (Inspect names settings) = inspect (names_of names) settings
 
--- the most findings that an inspection has where the words don't say it
-abbrev pub usual_findings : ℕ
-usual_findings = 65536
+-- The words of an inspection.
 
 -- a name isn't empty and doesn't begin with two dashes
 unfoldable pub is_name : List ℕ → Bool
 is_name word = not (length word == 0) && not (bytes_eq (take 2 word) (codes "--"))
 
--- the words `RULES CAPTURE`
-unfoldable pub names_in : List (List ℕ) → Option Names
-names_in (rules ∷ capture ∷ []) =
-    if is_name rules && is_name capture then Some (record { rules = rules; capture = capture }) else None
-names_in words = None
+-- the number that a word writes in decimal digits, without a sign or a zero in front, if it is from
+-- the least up to the most
+unfoldable pub number_in : ℕ → ℕ → List ℕ → Option ℕ
+number_in least most word =
+    let number = digits_value 10 word in
+    if bytes_eq word (decimal number) && (nat_le least number && nat_le number most) then Some number else None
 
--- an inspection of the files that are named
-abbrev pub inspection_by : Option Names → Asked
-inspection_by (Some names) = inspect names usual_findings
-inspection_by None = unknown
+-- the options with one more, of this word and value: one that is known and wasn't given yet
+unfoldable pub with_option : Options → List ℕ → List ℕ → Option Options
+with_option options word value =
+    if bytes_eq word (codes "--window") && is_none options.window
+    then option_map (λ window. record options { window = Some window }) (number_in 1 86400 value)
+    else None
+
+-- the settings that these options give: 65,536 findings, and 30 seconds where they don't say it
+abbrev pub settings_by : Options → Settings
+settings_by options = record { findings = 65536; window = unwrap_or options.window 30 }
+
+-- an inspection of the files of these names, if names they are
+unfoldable pub inspection_of : Options → List ℕ → List ℕ → Asked
+inspection_of options rules capture =
+    if is_name rules && is_name capture
+    then inspect (record { rules = rules; capture = capture }) (settings_by options)
+    else unknown
+
+-- options, each with its value behind it, and then two names
+unfoldable pub inspection_by : Options → List (List ℕ) → Asked
+inspection_by options [] = unknown
+inspection_by options (word ∷ []) = unknown
+inspection_by options (rules ∷ capture ∷ []) = inspection_of options rules capture
+inspection_by options (word ∷ value ∷ other ∷ words) =
+    option_map_or (λ more. inspection_by more (other ∷ words)) (with_option options word value) unknown
+
+abbrev pub no_options : Options
+no_options = record { window = None }
 
 -- what the words behind the program's own name ask for, where they are one of these:
---     inspect RULES CAPTURE
+--     inspect [--window N] RULES CAPTURE
 unfoldable pub asked_by : List (List ℕ) → Asked
 asked_by [] = unknown
-asked_by (command ∷ words) = if bytes_eq command (codes "inspect") then inspection_by (names_in words) else unknown
+asked_by (command ∷ words) = if bytes_eq command (codes "inspect") then inspection_by no_options words else unknown

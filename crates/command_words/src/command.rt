@@ -1,9 +1,14 @@
 // The commands, and the words that they are written by.
-ghost use Rattle.std.specs.Prelude.{◌≡◌, map, MatchOption, None, Some, string_bytes};
-ghost use Rattle.command_words.specs.Words.{is_name, names_in, names_of, asked_by, asked_of};
+ghost use Rattle.std.specs.Prelude.{◌≡◌, map, string_bytes};
+ghost use Rattle.command_words.specs.Words.{is_name, inspection_of, inspection_by, settings_by, asked_by, asked_of};
+
+use crate::options::Options;
 
 /// The most findings that an inspection has where the words don't say it.
 const USUAL_FINDINGS: u32 = 65_536;
+
+/// The window in seconds where the words don't say it.
+const USUAL_WINDOW: u32 = 30;
 
 /// The names of the files that an inspection reads.
 #[derive(Clone, Copy, Debug)]
@@ -12,14 +17,25 @@ pub struct FileNames<'a> {
     pub capture: &'a str,
 }
 
+/// What an inspection is told beside its files.
+#[derive(Clone, Copy, Debug)]
+pub struct Settings {
+    /// The most findings that it may have.
+    pub findings: u32,
+    /// The window that parts the generations of a key, in seconds, from 1 to 86,400.
+    pub window: u32,
+}
+
 /// What the program is asked to do.
 #[derive(Clone, Copy, Debug)]
 pub enum Command<'a> {
     /// Nothing that it knows.
     Unknown,
-    /// Inspect a capture under rules, and write the report, unless there are more than so many
-    /// findings.
-    Inspect { names: FileNames<'a>, findings: u32 },
+    /// Inspect a capture under rules, and write the report.
+    Inspect {
+        names: FileNames<'a>,
+        settings: Settings,
+    },
 }
 
 #[tactic(auto, unfolding(crate::specs::Words::is_name))]
@@ -29,40 +45,57 @@ fn can_name(word: &str) -> bool
     !word.is_empty() && !word.as_bytes().starts_with(b"--")
 }
 
-// The names in the words `RULES CAPTURE`.
-#[tactic(auto, unfolding(crate::specs::Words::names_in))]
-fn file_names(words: &[String]) -> Option<FileNames<'_>>
-    ensures { MatchOption result (names_in (map (λ w. string_bytes w) words.now) ≡ None) (λ names. names_in (map (λ w. string_bytes w) words.now) ≡ Some (names_of names)) }
+fn settings_by(options: Options) -> Settings
+    ensures { result ≡ settings_by options }
 {
-    match words {
-        [rules, capture] => {
-            if can_name(rules.as_str()) && can_name(capture.as_str()) {
-                Some(FileNames {
-                    rules: rules.as_str(),
-                    capture: capture.as_str(),
-                })
-            } else {
-                None
-            }
-        }
-        _ => None,
+    Settings {
+        findings: USUAL_FINDINGS,
+        window: options.window.unwrap_or(USUAL_WINDOW),
     }
 }
 
-/// What the words behind the program's own name ask for: `inspect RULES CAPTURE`, with names that
-/// aren't empty and don't begin with two dashes. All other words are `Unknown`.
+// An inspection of the files of these names, if names they are.
+#[tactic(auto, unfolding(crate::specs::Words::inspection_of))]
+fn inspection_of<'a>(options: Options, rules: &'a str, capture: &'a str) -> Command<'a>
+    ensures { asked_of result ≡ inspection_of options rules.now capture.now }
+{
+    if can_name(rules) && can_name(capture) {
+        Command::Inspect {
+            names: FileNames { rules, capture },
+            settings: settings_by(options),
+        }
+    } else {
+        Command::Unknown
+    }
+}
+
+// What these words behind `inspect` and behind options ask for.
+#[tactic(auto, unfolding(crate::specs::Words::inspection_by))]
+fn inspection_by(options: Options, words: &[String]) -> Command<'_>
+    ensures { asked_of result ≡ inspection_by options (map (λ w. string_bytes w) words.now) }
+{
+    match words {
+        [word, value, rest @ ..] if !rest.is_empty() => {
+            match options.with(word.as_str(), value.as_str()) {
+                Some(more) => inspection_by(more, rest),
+                None => Command::Unknown,
+            }
+        }
+        [rules, capture] => inspection_of(options, rules.as_str(), capture.as_str()),
+        _ => Command::Unknown,
+    }
+}
+
+/// What the words behind the program's own name ask for: `inspect [--window N] RULES CAPTURE`, with
+/// names that aren't empty and don't begin with two dashes. All other words are `Unknown`.
 #[tactic(auto, unfolding(crate::specs::Words::asked_by))]
 pub fn command_of(words: &[String]) -> Command<'_>
     ensures { asked_of result ≡ asked_by (map (λ w. string_bytes w) words.now) }
 {
     match words {
-        [command, rest @ ..] if command.as_str() == "inspect" => match file_names(rest) {
-            Some(names) => Command::Inspect {
-                names,
-                findings: USUAL_FINDINGS,
-            },
-            None => Command::Unknown,
-        },
+        [command, rest @ ..] if command.as_str() == "inspect" => {
+            inspection_by(Options { window: None }, rest)
+        }
         _ => Command::Unknown,
     }
 }

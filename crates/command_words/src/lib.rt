@@ -2,7 +2,8 @@
 #![tactic(auto)]
 
 mod command;
+mod options;
 #[cfg(test)]
 mod tests;
 
-pub use command::{Command, FileNames, command_of};
+pub use command::{Command, FileNames, Settings, command_of};

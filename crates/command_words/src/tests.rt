@@ -12,14 +12,56 @@ fn list(alloc: Global, words: &[&str]) -> Result<Vec<String>, AllocError> {
 
 #[test]
 fn an_inspection_is_read_from_its_words(rt: HostRuntime) -> Result<(), Fail> {
-    let words = list(rt.alloc(), &["inspect", "r", "-c"])?;
-    let Command::Inspect { names, findings } = command_of(&words) else {
-        assert!(rt; false, "an inspection");
-        return Ok(());
-    };
-    assert_eq!(rt; names.rules, "r");
-    assert_eq!(rt; names.capture, "-c");
-    assert_eq!(rt; findings, 65_536);
+    let lists: [(&[&str], u32); 4] = [
+        (&["inspect", "r", "-c"], 30),
+        (&["inspect", "--window", "1", "r", "-c"], 1),
+        (&["inspect", "--window", "31", "r", "-c"], 31),
+        (&["inspect", "--window", "86400", "r", "-c"], 86_400),
+    ];
+    for (words, window) in lists {
+        let words = list(rt.alloc(), words)?;
+        let Command::Inspect { names, settings } = command_of(&words) else {
+            assert!(rt; false, "an inspection");
+            return Ok(());
+        };
+        assert_eq!(rt; names.rules, "r");
+        assert_eq!(rt; names.capture, "-c");
+        assert_eq!(rt; settings.findings, 65_536);
+        assert_eq!(rt; settings.window, window);
+    }
+    Ok(())
+}
+
+#[test]
+fn a_window_is_a_number_of_seconds_and_given_once(rt: HostRuntime) -> Result<(), Fail> {
+    for value in [
+        "",
+        "0",
+        "86401",
+        "030",
+        "+30",
+        "-30",
+        " 30",
+        "30s",
+        "0x1e",
+        "4294967326",
+        "--window",
+    ] {
+        let words = list(rt.alloc(), &["inspect", "--window", value, "r", "c"])?;
+        assert!(rt; matches!(command_of(&words), Command::Unknown), "{value}");
+    }
+    let lists: [&[&str]; 6] = [
+        &["inspect", "--window", "30"],
+        &["inspect", "--window", "30", "r"],
+        &["inspect", "r", "c", "--window", "30"],
+        &["inspect", "--window=30", "r", "c"],
+        &["inspect", "--window", "30", "--window", "30", "r", "c"],
+        &["inspect", "--windows", "30", "r", "c"],
+    ];
+    for words in lists {
+        let words = list(rt.alloc(), words)?;
+        assert!(rt; matches!(command_of(&words), Command::Unknown));
+    }
     Ok(())
 }
 

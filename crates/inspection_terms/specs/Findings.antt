@@ -22,6 +22,6 @@ findings_in rules bytes (first ∷ others) =
 unfoldable pub all_findings : List Rule → List ℕ → List Task → List ℕ
 all_findings rules bytes tasks = flat_map (findings_in rules bytes) (datagrams tasks)
 
--- the findings of rules in a capture
-abbrev pub findings_of_capture : List Rule → List ℕ → Contents → List ℕ
-findings_of_capture rules bytes contents = all_findings rules bytes (tasks_of (kinds_of bytes contents))
+-- the findings of rules in a capture, whose generations are parted by a window of so many seconds
+abbrev pub findings_of_capture : List Rule → List ℕ → ℕ → Contents → List ℕ
+findings_of_capture rules bytes window contents = all_findings rules bytes (tasks_of (kinds_of bytes window contents))

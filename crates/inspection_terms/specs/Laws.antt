@@ -10,13 +10,13 @@ use Rattle.inspection_terms.specs.Findings.{findings_of_capture}
 
 -- the findings of at most 65,536 rules in a capture that has a plan ascend
 abbrev pub CaptureFindingsAscend : Type 0
-CaptureFindingsAscend = (rules : List Rule) (bytes : List ℕ) (capture : Capture) (plan : Plan)
-    → length rules ≤ 65536 → IsClassifiable bytes capture → IsPlan bytes capture plan
-    → AllPairs (λ f later. f < later) (findings_of_capture rules bytes (contents_of capture))
+CaptureFindingsAscend = (rules : List Rule) (bytes : List ℕ) (capture : Capture) (window : ℕ) (plan : Plan)
+    → length rules ≤ 65536 → IsClassifiable bytes capture → IsPlan bytes capture window plan
+    → AllPairs (λ f later. f < later) (findings_of_capture rules bytes window (contents_of capture))
 
 -- so whatever order they were found in, sorted they are the findings of the capture
 abbrev pub SortedAreFindings : Type 0
-SortedAreFindings = (rules : List Rule) (bytes : List ℕ) (capture : Capture) (plan : Plan)
-    → length rules ≤ 65536 → IsClassifiable bytes capture → IsPlan bytes capture plan
-    → (sorted : List ℕ) → IsPermutation (findings_of_capture rules bytes (contents_of capture)) sorted → IsNonDecreasing sorted
-    → sorted ≡ findings_of_capture rules bytes (contents_of capture)
+SortedAreFindings = (rules : List Rule) (bytes : List ℕ) (capture : Capture) (window : ℕ) (plan : Plan)
+    → length rules ≤ 65536 → IsClassifiable bytes capture → IsPlan bytes capture window plan
+    → (sorted : List ℕ) → IsPermutation (findings_of_capture rules bytes window (contents_of capture)) sorted → IsNonDecreasing sorted
+    → sorted ≡ findings_of_capture rules bytes window (contents_of capture)

@@ -55,7 +55,7 @@ capture_words (Record at) = codes "record at " ++ decimal at
 
 -- what is told of it
 abbrev pub words_of : Cause → List ℕ
-words_of no_command = codes "usage: inspect|journal [--workers N] [--findings N] RULES CAPTURE | make SEED FRAMES | trial [--workers N] SEED FRAMES"
+words_of no_command = codes "usage: inspect|journal [--workers N] [--findings N] [--window N] RULES CAPTURE | make SEED FRAMES | trial [--workers N] SEED FRAMES"
 words_of (unread name) = codes "read fault: " ++ name
 words_of unwritten = codes "write fault"
 words_of (bad_line line) = codes "bad rules: line " ++ decimal line

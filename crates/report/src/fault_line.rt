@@ -9,7 +9,7 @@ use capture_terms::CaptureFault;
 use itoa::Buffer;
 
 const USAGE: &[u8] =
-    b"usage: inspect|journal [--workers N] [--findings N] RULES CAPTURE | make SEED FRAMES | trial [--workers N] SEED FRAMES";
+    b"usage: inspect|journal [--workers N] [--findings N] [--window N] RULES CAPTURE | make SEED FRAMES | trial [--workers N] SEED FRAMES";
 
 /// Appends the line of a fault, with its line feed. It takes no memory.
 ///

@@ -20,6 +20,7 @@ const GROUP: Group = Group {
         protocol: 1,
     },
     id: 1,
+    generation: 0,
 };
 
 const WORDS: [&str; 11] = [
@@ -226,7 +227,7 @@ fn each_fault_is_told_by_its_line(rt: HostRuntime) -> Result<(), Fail> {
     let lines: [(Fault<'static>, &str); 13] = [
         (
             Fault::Usage,
-            "usage: inspect|journal [--workers N] [--findings N] RULES CAPTURE | make SEED FRAMES | trial [--workers N] SEED FRAMES\n",
+            "usage: inspect|journal [--workers N] [--findings N] [--window N] RULES CAPTURE | make SEED FRAMES | trial [--workers N] SEED FRAMES\n",
         ),
         (Fault::Read("r"), "read fault: r\n"),
         (Fault::Write, "write fault\n"),

@@ -4,5 +4,5 @@ use Rattle.inspection_terms.proofs.Sorting.{sorted_one}
 use Rattle.inspection_terms.proofs.sorted_are_findings.Goals as goal
 
 pub returns : goal.returns
-returns c = λ rules bytes capture plan few fine is sorted shuffled rises.
-    sorted_one (findings_of_capture rules bytes (contents_of capture)) sorted (c.capture_findings_ascend.ensures rules bytes capture plan few fine is) shuffled rises
+returns c = λ rules bytes capture window plan few fine is sorted shuffled rises.
+    sorted_one (findings_of_capture rules bytes window (contents_of capture)) sorted (c.capture_findings_ascend.ensures rules bytes capture window plan few fine is) shuffled rises

@@ -1,0 +1,60 @@
+// The options of an inspection.
+ghost use Rattle.std.specs.Prelude.{◌≡◌, ℕ, ◌<◌, ◌^◌, None, IfSome};
+ghost use Rattle.std.specs.Fmt.{decimal};
+ghost use Rattle.command_words.specs.Words.{number_in, with_option};
+
+use itoa::Buffer;
+
+/// The options that were given so far, each with its value.
+#[derive(Clone, Copy, Debug)]
+pub struct Options {
+    /// The window in seconds.
+    pub window: Option<u32>,
+}
+
+// The number whose decimal digits the word is, if it is one below 2^32.
+fn written(word: &str) -> Option<u32>
+    ensures number { IfSome result (λ number. (number < 2 ^ 32) × (word.now ≡ decimal number)) }
+    ensures none { result ≡ None → (number : ℕ) → number < 2 ^ 32 → word.now ≡ decimal number → ⊥ }
+{
+    let Ok(number) = word.parse::<u32>() else {
+        return None;
+    };
+    let mut buffer = Buffer::new();
+    if buffer.format(number).as_bytes() == word.as_bytes() {
+        Some(number)
+    } else {
+        None
+    }
+}
+
+// The number that a word writes in decimal digits, without a sign or a zero in front, if it is from
+// `least` up to `most`.
+fn number_in(word: &str, least: u32, most: u32) -> Option<u32>
+    ensures { result ≡ number_in least most word.now }
+{
+    let number = written(word)?;
+    if least <= number && number <= most {
+        Some(number)
+    } else {
+        None
+    }
+}
+
+impl Options {
+    /// These with one more, of this word and value. There is none where the word is no option, or one
+    /// that was given already, or where the value is none of the option's.
+    #[tactic(auto, unfolding(crate::specs::Words::with_option))]
+    pub fn with(self, word: &str, value: &str) -> Option<Options>
+        ensures { result ≡ with_option self word.now value.now }
+    {
+        if word == "--window" && self.window.is_none() {
+            let window = number_in(value, 1, 86_400)?;
+            Some(Options {
+                window: Some(window),
+            })
+        } else {
+            None
+        }
+    }
+}
