@@ -1,20 +1,19 @@
 -- The findings of one datagram more.
 use Rattle.std.proofs.Common.{◌≡◌, ℕ, ◌+◌, ◌<◌, ◌≤◌, Bool, true, false, List, [], ◌∷◌, ◌++◌, length, take, drop, get_or, Option, Some, None, inr, refl, sym, ◌∙◌, ap, arith, append-nil}
-use Rattle.std.specs.Prelude.{◌&&◌, if◌then◌else◌, All, filter_map, map}
+use Rattle.std.specs.Prelude.{◌&&◌, if◌then◌else◌, filter_map, map}
 use Rattle.std.specs.List.{flat_map, cons_option}
 use Rattle.std.proofs.Math.Seq.{take-length}
 use Rattle.std.specs.Option.{option_map_or}
 use Rattle.std.proofs.lemmas.Grind.{flat_map-append}
 use Rattle.std.proofs.lemmas.List.{take_more, length-append, take-append-drop}
-use Rattle.std.proofs.lemmas.List.Sums.{length-filter, count_by-le-length}
-use Rattle.std.proofs.lemmas.Option.{slice_get_within}
+use Rattle.std.proofs.lemmas.Option.{slice_get_within, slice_get-get_or}
 use Rattle.std.proofs.lemmas.List.Elements.{filter_map-append}
-use Rattle.capture_terms.specs.Datagram.{IsDatagramAt, is_complete, is_member, members, group_from, datagram_from, payload_of}
+use Rattle.capture_terms.specs.Datagram.{IsDatagramAt, is_complete, members, group_from, datagram_from, payload_of}
 use Rattle.capture_terms.specs.declared.plan.Task.{Task}
 use Rattle.rule_terms.specs.Match.{findings_of}
 use Rattle.rule_terms.specs.Rule.{Rule}
-use Rattle.tdsl_tool.specs.Members.{IsMembers, AreMembers}
-use Rattle.tdsl_tool.specs.declared.members.Members.{Members}
+use Rattle.tdsl_tool.specs.Members.{IsMembers, AreNumbersIn, tasks_at}
+use Rattle.tdsl_tool.proofs.MemberSteps.{first_there}
 use Rattle.inspection_terms.specs.Findings.{finding_number, findings_in, all_findings}
 
 -- what lists of the values come to, of one value or none
@@ -97,8 +96,8 @@ findings_among-step rules bytes tasks upto task old new there is so_far added =
     ∙ sym (findings_among-more rules bytes tasks upto task there is)
 
 -- the numbers of a complete group's tasks are those of its datagram
-pub IsMembers-datagram : (tasks : List Task) (group : ℕ) (list : Members) → IsMembers tasks (length tasks) group list → is_complete list.tasks.items ≡ true → IsDatagramAt tasks list.numbers.items list.tasks.items
-IsMembers-datagram tasks group list are complete = inr (record {
+pub IsMembers-datagram : (tasks : List Task) (group : ℕ) (numbers : List ℕ) → IsMembers tasks (length tasks) group numbers → is_complete (tasks_at tasks numbers) ≡ true → IsDatagramAt tasks numbers (tasks_at tasks numbers)
+IsMembers-datagram tasks group numbers are complete = inr (record {
   group = group;
   each = are.each;
   all = λ number task got member. are.all number task (slice_get_within tasks number task got) got member;
@@ -106,15 +105,25 @@ IsMembers-datagram tasks group list are complete = inr (record {
   is = whole;
 })
   where
-    whole : list.tasks.items ≡ members tasks group
+    whole : tasks_at tasks numbers ≡ members tasks group
     whole = are.tasks_are ∙ ap (λ (l : List Task). members l group) (take-length tasks)
 
--- the lists of the groups are no longer than that of all tasks
-pub AreMembers-few : (tasks : List Task) (count most : ℕ) (lists : List Members) → length tasks < most → AreMembers tasks (length tasks) count lists → All (λ (list : Members). length list.tasks.items < most) lists
-AreMembers-few tasks count most lists few are = λ k d below.
-    let inside : k < count = omega (arith, are.long, below) in
-    let at = (are.lists_are k d inside).tasks_are in
-    let long = ap (length {A = Task}) at ∙ length-filter (is_member k) (take (length tasks) tasks) in
-    let least = count_by-le-length (is_member k) (take (length tasks) tasks) in
-    let all = ap (length {A = Task}) (take-length tasks) in
-    omega (arith, long, least, all)
+-- where there are tasks there are numbers
+some_at : (tasks : List Task) (numbers : List ℕ) → 0 < length (tasks_at tasks numbers) → 0 < length numbers
+some_at tasks [] some = absurd (omega arith)
+some_at tasks (number ∷ numbers) some = omega arith
+
+-- a task that is read by the first number of a complete group is the first of the group
+pub first_of : (tasks : List Task) (numbers seen : List ℕ) (first : Task) (d : ℕ) → seen ≡ numbers → AreNumbersIn tasks numbers → is_complete (tasks_at tasks numbers) ≡ true → first ≡ get_or tasks (get_or seen 0 d) first → first ≡ get_or (tasks_at tasks numbers) 0 first
+first_of tasks numbers seen first d same there complete is =
+    let found = first_there tasks numbers d first there (some_at tasks numbers (complete-some (tasks_at tasks numbers) complete)) in
+    let other = slice_get-get_or (tasks_at tasks numbers) 0 first (complete-some (tasks_at tasks numbers) complete) in
+    let whole : Some (get_or (tasks_at tasks numbers) 0 first) ≡ Some (get_or tasks (get_or numbers 0 d) first) = sym other ∙ found in
+    let one : get_or (tasks_at tasks numbers) 0 first ≡ get_or tasks (get_or numbers 0 d) first = cc in
+    is ∙ ap (λ (l : List ℕ). get_or tasks (get_or l 0 d) first) same ∙ sym one
+
+-- nothing is found in a datagram in which no rule finds anything
+pub findings_in-none : (rules : List Rule) (bytes : List ℕ) (datagram : List Task) (first : Task) → 0 < length datagram → first ≡ get_or datagram 0 first → ((payload : List ℕ) → findings_of rules first.header payload ≡ []) → findings_in rules bytes datagram ≡ []
+findings_in-none rules bytes datagram first some is none =
+    sym (findings_in-first rules bytes (payload_of bytes datagram) datagram first some is refl)
+    ∙ ap (map (finding_number first.frame)) (none (payload_of bytes datagram))

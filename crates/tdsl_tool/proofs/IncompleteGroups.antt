@@ -7,8 +7,8 @@ use Rattle.std.proofs.Math.Seq.{take-length}
 use Rattle.capture_terms.specs.Datagram.{is_complete, members, incomplete}
 use Rattle.capture_terms.specs.declared.plan.Group.{Group}
 use Rattle.capture_terms.specs.declared.plan.Task.{Task}
-use Rattle.tdsl_tool.specs.Members.{AreMembers}
-use Rattle.tdsl_tool.specs.declared.members.Members.{Members}
+use Rattle.smallvec.specs.SmallVec.{SmallVec}
+use Rattle.tdsl_tool.specs.Members.{AreMembers, tasks_at}
 
 -- counting over lists and over their numbers
 count_by-numbers : {X : Type 0} (p : X → Bool) (q : ℕ → Bool) (xs : List X) (a : ℕ) → ((k : ℕ) (d : X) → k < length xs → p (get_or xs k d) ≡ q (a + k)) → count_by p xs ≡ count_by q (range_with_len a (length xs))
@@ -21,13 +21,17 @@ count_by-numbers p q (x ∷ xs) a same =
     ∙ ap (λ (n : ℕ). cond (q a) 1 0 + n) rest
     ∙ sym (sum_by-cons (λ (n : ℕ). cond (q n) 1 0) a (range_with_len (a + 1) (length xs)))
 
+-- the members of this list don't make up a whole datagram
+abbrev pub is_incomplete : List Task → SmallVec ℕ → Bool
+is_incomplete tasks list = not (is_complete (tasks_at tasks list.items))
+
 -- the groups that are incomplete, counted over the lists
-pub incomplete-lists : (tasks : List Task) (groups : List Group) (lists : List Members) → length groups ≡ length lists → AreMembers tasks (length tasks) (length groups) lists → count_by (λ (m : Members). not (is_complete m.tasks.items)) lists ≡ incomplete tasks groups
+pub incomplete-lists : (tasks : List Task) (groups : List Group) (lists : List (SmallVec ℕ)) → length groups ≡ length lists → AreMembers tasks (length tasks) (length lists) lists → count_by (is_incomplete tasks) lists ≡ incomplete tasks groups
 incomplete-lists tasks groups lists long are =
-    count_by-numbers (λ (m : Members). not (is_complete m.tasks.items)) (λ (n : ℕ). not (is_complete (members tasks n))) lists 0 same
+    count_by-numbers (is_incomplete tasks) (λ (n : ℕ). not (is_complete (members tasks n))) lists 0 same
     ∙ ap (λ (n : ℕ). count_by (λ (n : ℕ). not (is_complete (members tasks n))) (range_with_len 0 n)) (sym long)
   where
-    same : (k : ℕ) (d : Members) → k < length lists → not (is_complete (get_or lists k d).tasks.items) ≡ not (is_complete (members tasks (0 + k)))
+    same : (k : ℕ) (d : SmallVec ℕ) → k < length lists → is_incomplete tasks (get_or lists k d) ≡ not (is_complete (members tasks (0 + k)))
     same k d below =
-        ap (λ (l : List Task). not (is_complete l)) ((are.lists_are k d (omega arith)).tasks_are ∙ ap (λ (l : List Task). members l k) (take-length tasks))
+        ap (λ (l : List Task). not (is_complete l)) ((are.lists_are k d below).tasks_are ∙ ap (λ (l : List Task). members l k) (take-length tasks))
         ∙ ap (λ (n : ℕ). not (is_complete (members tasks n))) (sym (zero-add k))

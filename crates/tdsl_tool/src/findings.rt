@@ -5,8 +5,7 @@ ghost use Rattle.capture_terms.specs.Datagram.{datagram_from, incomplete, is_com
 ghost use Rattle.capture_terms.specs.Plan.{IsClassifiable, IsPlan};
 ghost use Rattle.capture_terms.specs.declared.capture.Capture.{Capture};
 ghost use Rattle.rule_terms.specs.Match as matches;
-ghost use Rattle.tdsl_tool.specs.Members.{AreMembers, IsMembers, IsGrouped};
-ghost use Rattle.tdsl_tool.specs.declared.members.Members as declared;
+ghost use Rattle.tdsl_tool.specs.Members.{AreMembers, IsMembers, IsGrouped, tasks_at};
 ghost use Rattle.report.specs.Report.{rule_of};
 ghost use Rattle.inspection_terms.specs.Findings.{all_findings, finding_number, findings_in};
 
@@ -60,16 +59,16 @@ fn add_group(
     rules: &Rules,
 ) -> Result<(), AllocError>
     requires planned { (capture : Capture) × IsClassifiable bytes.now capture × IsPlan bytes.now capture plan.now }
-    requires whole { (group : ℕ) × IsMembers plan.now.tasks.items (length plan.now.tasks.items) group list.now }
-    requires complete { is_complete list.now.tasks.items ≡ true }
-    ensures added { OnOk result (found.new.items ≡ found.old.items ++ findings_in rules.now bytes.now list.now.tasks.items) }
+    requires whole { (group : ℕ) × IsMembers plan.now.tasks.items (length plan.now.tasks.items) group list.now.items }
+    requires complete { is_complete (tasks_at plan.now.tasks.items list.now.items) ≡ true }
+    ensures added { OnOk result (found.new.items ≡ found.old.items ++ findings_in rules.now bytes.now (tasks_at plan.now.tasks.items list.now.items)) }
     ensures rules_there { All (λ (f : ℕ). rule_of f < length rules.now) found.old.items → OnOk result (All (λ (f : ℕ). rule_of f < length rules.now) found.new.items) }
 {
-    let first = &list.tasks[0];
+    let first = &plan.tasks[list[0] as usize];
     if !any_asks_for(rules, &first.header) {
         return Ok(());
     }
-    let payload = payload(alloc, plan, bytes, &list.numbers)?;
+    let payload = payload(alloc, plan, bytes, list)?;
     add_found(alloc, found, rules, first, &payload)
 }
 
@@ -87,7 +86,7 @@ fn add_findings(
     requires member { Contains plan.now.tasks.items task.now }
     requires lists { AreMembers plan.now.tasks.items (length plan.now.tasks.items) (length lists.now) lists.now }
     requires grouped { IsGrouped (length lists.now) task.now }
-    requires few { All (λ (list : declared.Members). length list.tasks.items < 2 ^ 32) lists.now }
+    requires few { length plan.now.tasks.items < 2 ^ 32 }
     ensures added { OnOk result (found.new.items ≡ found.old.items ++ option_map_or (findings_in rules.now bytes.now) (datagram_from plan.now.tasks.items task.now) []) }
     ensures rules_there { All (λ (f : ℕ). rule_of f < length rules.now) found.old.items → OnOk result (All (λ (f : ℕ). rule_of f < length rules.now) found.new.items) }
 {
@@ -103,7 +102,7 @@ fn add_findings(
                 &bytes[from..from + task.length as usize],
             )
         }
-        Some(group) => match whole_from(lists, group, task) {
+        Some(group) => match whole_from(&plan.tasks, lists, group, task) {
             None => Ok(()),
             Some(list) => add_group(alloc, found, plan, list, bytes, rules),
         },
@@ -140,7 +139,7 @@ fn match_all(
     requires planned { (capture : Capture) × IsClassifiable bytes.now capture × IsPlan bytes.now capture plan.now }
     requires lists { AreMembers plan.now.tasks.items (length plan.now.tasks.items) (length lists.now) lists.now }
     requires grouped { All (IsGrouped (length lists.now)) plan.now.tasks.items }
-    requires few { All (λ (list : declared.Members). length list.tasks.items < 2 ^ 32) lists.now }
+    requires few { length plan.now.tasks.items < 2 ^ 32 }
     ensures findings { IfOk result (λ numbers. numbers.items ≡ all_findings rules.now bytes.now plan.now.tasks.items) }
     ensures few { IfOk result (λ numbers. length numbers.items ≤ most) }
     ensures rules_there { IfOk result (λ numbers. All (λ (f : ℕ). rule_of f < length rules.now) numbers.items) }
@@ -184,6 +183,6 @@ pub fn find_all(
     let numbers = match_all(alloc, plan, &lists, bytes, rules, most)?;
     Ok(Found {
         numbers,
-        incomplete: count_incomplete(&lists),
+        incomplete: count_incomplete(&plan.tasks, &lists),
     })
 }

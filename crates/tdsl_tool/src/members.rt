@@ -1,40 +1,33 @@
 // The tasks of a plan by their groups.
-ghost use Rattle.std.specs.Prelude.{◌≡◌, ℕ, ◌+◌, ◌^◌, ◌<◌, ◌≤◌, ◌++◌, List, [], ◌∷◌, length, All, IfOk, OnOk, slice_index_or, slice_set, MatchOption, None, Some};
+ghost use Rattle.std.specs.Prelude.{◌≡◌, ℕ, ◌+◌, ◌^◌, ◌<◌, ◌≤◌, ◌++◌, ◌==◌, ◌&&◌, List, [], ◌∷◌, length, All, IfOk, OnOk, slice_get, slice_index_or, slice_set, MatchOption, None, Some, false};
+ghost use Rattle.std.specs.Option.{option_map_or};
+ghost use Rattle.smallvec.specs.SmallVec.{SmallVec};
 ghost use Rattle.capture_terms.specs.declared.plan.Task.{Task};
-ghost use Rattle.capture_terms.specs.Datagram.{size_of, is_complete, group_from, incomplete};
+ghost use Rattle.capture_terms.specs.Datagram.{size_of, end_of_task, is_complete, group_from, incomplete};
 ghost use Rattle.capture_terms.specs.declared.plan.Group.{Group};
-ghost use Rattle.tdsl_tool.specs.declared.members.Members as declared;
-ghost use Rattle.tdsl_tool.specs.Members.{IsGrouped, IsEmpty, IsMembers, AreMembers};
+ghost use Rattle.tdsl_tool.specs.Members.{IsGrouped, IsEmpty, IsMembers, AreMembers, AreNumbersIn, tasks_at};
 
 use ipv4_fragments::{Plan, Task};
+use smallvec::SmallVec;
 use std::alloc::{AllocError, Global};
 
-/// The tasks of one group in capture order, and their numbers in the plan.
-#[derive(Drop)]
-pub struct Members {
-    pub numbers: Vec<u32>,
-    pub tasks: Vec<Task>,
-}
+/// The numbers of the tasks of one group, in capture order. Most groups have few.
+pub type Members = SmallVec<u32, 4>;
 
 fn no_members(alloc: Global, count: usize) -> Result<Vec<Members>, AllocError>
     ensures { IfOk result (λ lists. (length lists.items ≡ count) × All IsEmpty lists.items) }
 {
-    let mut lists = Vec::new(alloc);
+    let mut lists = Vec::with_capacity(alloc, count)?;
     for _ in 0..count {
-        lists.push(Members {
-            numbers: Vec::new(alloc),
-            tasks: Vec::new(alloc),
-        })?;
+        lists.push(SmallVec::new(alloc))?;
     }
     Ok(lists)
 }
 
-fn add(list: &mut Members, number: u32, task: &Task) -> Result<(), AllocError>
-    ensures numbers { OnOk result (list.new.numbers.items ≡ list.old.numbers.items ++ number ∷ []) }
-    ensures tasks { OnOk result (list.new.tasks.items ≡ list.old.tasks.items ++ task.now ∷ []) }
+fn add(list: &mut Members, number: u32) -> Result<(), AllocError>
+    ensures { OnOk result (list.new.items ≡ list.old.items ++ number ∷ []) }
 {
-    list.numbers.push(number)?;
-    list.tasks.push(*task)?;
+    list.push(number)?;
     Ok(())
 }
 
@@ -46,10 +39,10 @@ fn add_task(lists: &mut Vec<Members>, number: u32, task: &Task) -> Result<(), Al
     let Some(group) = task.group else {
         return Ok(());
     };
-    add(&mut lists[group as usize], number, task)
+    add(&mut lists[group as usize], number)
 }
 
-/// The tasks of each group, by the group's number.
+/// The numbers of the tasks of each group, by the group's number.
 pub fn members_by_group(alloc: Global, plan: &Plan) -> Result<Vec<Members>, AllocError>
     requires few { length plan.now.tasks.items < 2 ^ 32 }
     requires grouped { All (IsGrouped (length plan.now.groups.items)) plan.now.tasks.items }
@@ -62,50 +55,83 @@ pub fn members_by_group(alloc: Global, plan: &Plan) -> Result<Vec<Members>, Allo
     Ok(lists)
 }
 
-// The sum of the lengths.
-fn size(tasks: &[Task]) -> u64
-    requires { length tasks.now < 2 ^ 32 }
-    ensures { result ≡ size_of tasks.now }
+// The sum of the lengths of the tasks of these numbers.
+fn size(tasks: &[Task], numbers: &[u32]) -> u64
+    requires few { length numbers.now < 2 ^ 32 }
+    requires there { AreNumbersIn tasks.now numbers.now }
+    ensures { result ≡ size_of (tasks_at tasks.now numbers.now) }
 {
     let mut size = 0;
-    for task in tasks {
-        size += u64::from(task.length);
+    for number in numbers {
+        size += u64::from(tasks[*number as usize].length);
     }
     size
 }
 
-/// Whether the tasks of a group make up a whole datagram.
-pub fn is_whole(tasks: &[Task]) -> bool
-    requires { length tasks.now < 2 ^ 32 }
-    ensures { result ≡ is_complete tasks.now }
+// Whether a task is the last of a datagram of this size.
+fn ends(task: &Task, size: u64) -> bool
+    ensures { result ≡ (task.now.last && (size == end_of_task task.now)) }
 {
-    let size = size(tasks);
-    tasks.iter().any(|task| task.last && size == u64::from(task.start) + u64::from(task.length))
+    task.last && size == u64::from(task.start) + u64::from(task.length)
+}
+
+/// Whether the tasks of these numbers make up a whole datagram.
+pub fn is_whole(tasks: &[Task], numbers: &[u32]) -> bool
+    requires few { length numbers.now < 2 ^ 32 }
+    requires there { AreNumbersIn tasks.now numbers.now }
+    ensures { result ≡ is_complete (tasks_at tasks.now numbers.now) }
+{
+    let size = size(tasks, numbers);
+    for number in numbers {
+        if ends(&tasks[*number as usize], size) {
+            return true;
+        }
+    }
+    false
+}
+
+// Whether the first of the tasks of these numbers is that of the same frame.
+fn begins_with(tasks: &[Task], numbers: &[u32], task: &Task) -> bool
+    requires { AreNumbersIn tasks.now numbers.now }
+    ensures { result ≡ option_map_or (λ first. first.frame == task.now.frame) (slice_get (tasks_at tasks.now numbers.now) 0) false }
+{
+    if numbers.is_empty() {
+        return false;
+    }
+    tasks[numbers[0] as usize].frame == task.frame
 }
 
 /// The members of a group, where they make up a whole datagram that begins with this task.
-pub fn whole_from<'a>(lists: &'a [Members], group: u32, task: &Task) -> Option<&'a Members>
+pub fn whole_from<'a>(
+    tasks: &[Task],
+    lists: &'a [Members],
+    group: u32,
+    task: &Task,
+) -> Option<&'a Members>
     requires there { group < length lists.now }
-    requires few { All (λ (list : declared.Members). length list.tasks.items < 2 ^ 32) lists.now }
-    ensures { (tasks : List Task) → AreMembers tasks (length tasks) (length lists.now) lists.now → MatchOption result (group_from tasks task.now group ≡ None) (λ list. (group_from tasks task.now group ≡ Some list.now.tasks.items) × IsMembers tasks (length tasks) group list.now) }
+    requires few { length tasks.now < 2 ^ 32 }
+    requires are { AreMembers tasks.now (length tasks.now) (length lists.now) lists.now }
+    ensures { MatchOption result (group_from tasks.now task.now group ≡ None) (λ list. (group_from tasks.now task.now group ≡ Some (tasks_at tasks.now list.now.items)) × IsMembers tasks.now (length tasks.now) group list.now.items) }
 {
     let list = &lists[group as usize];
-    match list.tasks.first() {
-        Some(first) if first.frame == task.frame && is_whole(&list.tasks) => Some(list),
-        _ => None,
+    if begins_with(tasks, list, task) && is_whole(tasks, list) {
+        Some(list)
+    } else {
+        None
     }
 }
 
 /// How many of the groups have members that don't make up a whole datagram.
-pub fn count_incomplete(lists: &[Members]) -> u32
+pub fn count_incomplete(tasks: &[Task], lists: &[Members]) -> u32
     requires few { length lists.now < 2 ^ 32 }
-    requires short { All (λ (list : declared.Members). length list.tasks.items < 2 ^ 32) lists.now }
-    ensures count { (tasks : List Task) (groups : List Group) → length groups ≡ length lists.now → AreMembers tasks (length tasks) (length groups) lists.now → result ≡ incomplete tasks groups }
+    requires short { length tasks.now < 2 ^ 32 }
+    requires are { AreMembers tasks.now (length tasks.now) (length lists.now) lists.now }
+    ensures count { (groups : List Group) → length groups ≡ length lists.now → result ≡ incomplete tasks.now groups }
     ensures few { result ≤ length lists.now }
 {
     let mut count = 0;
     for list in lists {
-        if !is_whole(&list.tasks) {
+        if !is_whole(tasks, list) {
             count += 1;
         }
     }

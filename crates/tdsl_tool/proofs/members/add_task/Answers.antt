@@ -1,5 +1,6 @@
-use Rattle.tdsl_tool.proofs.MemberSteps.{AreMembers-skip, AreMembers-more, on_ok_both}
 use Rattle.std.proofs.Common.{refl}
+use Rattle.std.proofs.lemmas.Result.{on_ok_weaker}
+use Rattle.tdsl_tool.proofs.MemberSteps.{AreMembers-skip, AreMembers-more}
 use Rattle.tdsl_tool.proofs.members.add_task.Goals as goal
 
 pub returns-in_default : goal.returns-in_default
@@ -7,6 +8,6 @@ returns-in_default c = λ tasks count there is are. AreMembers-skip tasks c.args
 
 pub returns : goal.returns
 returns c = λ tasks count there is are.
-    on_ok_both c.add.result
-    (λ numbers added. AreMembers-more tasks c.args.number count c.args.lists.now.items _ c.args.task.now c.in-Some.group c.index_mut.result.now c.add.new.list there is c.in-Some.is (rw c.in-Some.is at c.requires) c.index_mut.ensures.value refl numbers added are)
-    c.add.ensures.numbers c.add.ensures.tasks
+    on_ok_weaker c.add.result
+    (λ added. AreMembers-more tasks c.args.number count c.args.lists.now.items _ c.args.task.now c.in-Some.group c.index_mut.result.now c.add.new.list there is c.in-Some.is (rw c.in-Some.is at c.requires) c.index_mut.ensures.value refl added are)
+    c.add.ensures
