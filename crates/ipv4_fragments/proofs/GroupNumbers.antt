@@ -16,20 +16,22 @@ use Rattle.std.proofs.Math.ListN.{get_or-append}
 use Rattle.std.proofs.Math.Seq.{get_or-append_seam}
 use Rattle.capture_terms.specs.declared.datagram.Header.{Header}
 use Rattle.capture_terms.specs.declared.plan.Group.{Group}
-use Rattle.capture_terms.specs.Kept.{is_same_header, is_same_group}
-use Rattle.ipv4_fragments.specs.GroupList.{header_cmp, group_cmp, AreNumbered, HasNumber, IsPlaceOf}
+use Rattle.capture_terms.specs.Generations.{is_same_header}
+use Rattle.capture_terms.specs.Kept.{is_same_group}
+use Rattle.ipv4_fragments.specs.GroupList.{header_cmp, group_cmp, AreNumbered, IsPlaceOf}
+use Rattle.ipv4_fragments.specs.Maps.{HasPut}
 use Rattle.ipv4_fragments.proofs.Clashes.{any_push}
 use Rattle.ipv4_fragments.proofs.KeptGroups.{none_at, any_at, same_group, same_itself, same_swapped, numbered, apart_keys}
 
 -- groups are the same where neither comes before the other
-tied : (a b : Ordering) (p q : Bool) → is_eq a ≡ p → is_eq b ≡ q → is_eq (ordering_then a b) ≡ (p && q)
+pub tied : (a b : Ordering) (p q : Bool) → is_eq a ≡ p → is_eq b ≡ q → is_eq (ordering_then a b) ≡ (p && q)
 tied a b p q first second = sym (tied_then a b) ∙ ap (λ (x : Bool). x && is_eq b) first ∙ ap (λ (x : Bool). p && x) second
 
-same_headers : (g h : Header) → is_eq (header_cmp g h) ≡ is_same_header g h
+pub same_headers : (g h : Header) → is_eq (header_cmp g h) ≡ is_same_header g h
 same_headers g h = tied _ _ _ _ (unsigned_tied g.source h.source) (tied _ _ _ _ (unsigned_tied g.destination h.destination) (unsigned_tied g.protocol h.protocol))
 
 same_groups : (g h : Group) → is_eq (group_cmp g h) ≡ is_same_group g h
-same_groups g h = tied _ _ _ _ (same_headers g.header h.header) (unsigned_tied g.id h.id)
+same_groups g h = tied _ _ _ _ (same_headers g.header h.header) (tied _ _ _ _ (unsigned_tied g.id h.id) (unsigned_tied g.generation h.generation))
 
 same_equivalent : IsEquivalence is_same_group
 same_equivalent = record {
@@ -123,12 +125,27 @@ module _ (numbers : BTreeMap Group ℕ) (groups now : List Group) (g : Group) (n
           let at = position-Some (is_same_group g) groups n g (sym (before.places g) ∙ found) in
           absurd (omega (arith, told, past, long, at.0))
 
+  -- a map in which a group was put that it had has the same places
+  pub numbered_known : (new : BTreeMap Group ℕ) → HasPut group_cmp numbers new g number → number < next → AreNumbered new groups
+  numbered_known new put below = record {
+    places = λ q. put q ∙ ap (λ (b : Bool). cond b (Some number) (get group_cmp numbers q)) (same_groups g q) ∙ by_case q (is_same_group g q) refl ∙ before.places q;
+    differ = before.differ;
+  }
+    where
+      kept : (o : Option ℕ) → get group_cmp numbers g ≡ o → get group_cmp numbers g ≡ Some number
+      kept None none = let last : number ≡ next = is ∙ (rw none refl) in absurd (omega (arith, last, below))
+      kept (Some n) found = let told : number ≡ n = is ∙ (rw found refl) in found ∙ ap Some (sym told)
+
+      by_case : (q : Group) (b : Bool) → is_same_group g q ≡ b → cond b (Some number) (get group_cmp numbers q) ≡ get group_cmp numbers q
+      by_case q true same = sym (kept (get group_cmp numbers g) refl) ∙ ap (get group_cmp numbers) (same_group g q same)
+      by_case q false other = refl
+
 pub numbered_none : (numbers : BTreeMap Group ℕ) → numbers.entries ≡ [] → AreNumbered numbers []
 unfolding IsDistinct
 numbered_none numbers empty = record { places = λ q. rw empty refl; differ = tt }
 
 -- one group more, which is none of those before
-pub numbered_more : (numbers new : BTreeMap Group ℕ) (groups : List Group) (g : Group) → AreNumbered numbers groups → list_any (is_same_group g) groups ≡ false → HasNumber numbers new g (length groups) → AreNumbered new (groups ++ g ∷ [])
+pub numbered_more : (numbers new : BTreeMap Group ℕ) (groups : List Group) (g : Group) → AreNumbered numbers groups → list_any (is_same_group g) groups ≡ false → HasPut group_cmp numbers new g (length groups) → AreNumbered new (groups ++ g ∷ [])
 numbered_more numbers new groups g before none put = record {
   places = λ q. put q ∙ ap (λ (b : Bool). cond b (Some (length groups)) (get group_cmp numbers q)) (same_groups g q) ∙ by_case q (is_same_group g q) refl;
   differ = IsDistinct-push same_equivalent groups g before.differ none;

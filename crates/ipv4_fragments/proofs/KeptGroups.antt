@@ -47,8 +47,8 @@ group_stays group f (g ∷ kept) other = elim (cases_Bool (is_same_group group (
   | inr away ↦ rw away (group_stays group f kept other)
 ]
 
-group_with : (s d p i : ℕ) → Group
-group_with s d p i = record { header = record { source = s; destination = d; protocol = p }; id = i }
+group_with : (s d p i n : ℕ) → Group
+group_with s d p i n = record { header = record { source = s; destination = d; protocol = p }; id = i; generation = n }
 
 pub same_group : (g h : Group) → is_same_group g h ≡ true → g ≡ h
 unfolding group_with
@@ -57,10 +57,12 @@ same_group g h same =
     let destination : g.header.destination ≡ h.header.destination = grind (arith, nat_tests) in
     let protocol : g.header.protocol ≡ h.header.protocol = grind (arith, nat_tests) in
     let id : g.id ≡ h.id = grind (arith, nat_tests) in
-    ap (λ (n : ℕ). group_with n g.header.destination g.header.protocol g.id) source
-    ∙ ap (λ (n : ℕ). group_with h.header.source n g.header.protocol g.id) destination
-    ∙ ap (λ (n : ℕ). group_with h.header.source h.header.destination n g.id) protocol
-    ∙ ap (λ (n : ℕ). group_with h.header.source h.header.destination h.header.protocol n) id
+    let generation : g.generation ≡ h.generation = grind (arith, nat_tests) in
+    ap (λ (n : ℕ). group_with n g.header.destination g.header.protocol g.id g.generation) source
+    ∙ ap (λ (n : ℕ). group_with h.header.source n g.header.protocol g.id g.generation) destination
+    ∙ ap (λ (n : ℕ). group_with h.header.source h.header.destination n g.id g.generation) protocol
+    ∙ ap (λ (n : ℕ). group_with h.header.source h.header.destination h.header.protocol n g.generation) id
+    ∙ ap (λ (n : ℕ). group_with h.header.source h.header.destination h.header.protocol h.id n) generation
 
 pub same_itself : (g : Group) → is_same_group g g ≡ true
 same_itself g = grind (arith, nat_tests)

@@ -1,5 +1,5 @@
 -- One frame more.
-use Rattle.std.proofs.Common.{◌≡◌, ℕ, suc, ◌+◌, List, [], ◌∷◌, ◌++◌, Option, refl, sym, ◌∙◌, ap, arith, length, append_assoc, subst, take, take_all, ◌≤◌}
+use Rattle.std.proofs.Common.{◌≡◌, ℕ, suc, ◌+◌, ◌*◌, List, [], ◌∷◌, ◌++◌, Option, refl, sym, ◌∙◌, ap, arith, length, append_assoc, subst, take, take_all, ◌≤◌}
 use Rattle.std.specs.Prelude.{option_to_list, map}
 use Rattle.std.proofs.lemmas.List.{append-nil}
 use Rattle.capture_terms.specs.declared.datagram.Class.{Class}
@@ -8,15 +8,16 @@ use Rattle.capture_terms.specs.declared.datagram.Piece.{Piece}
 use Rattle.capture_terms.specs.declared.plan.Group.{Group}
 use Rattle.capture_terms.specs.declared.plan.Task.{Task}
 use Rattle.capture_terms.specs.Kept.{class_behind, kept_piece, classes_behind, classes_of, kept_among, kept_of}
-use Rattle.capture_terms.specs.Plan.{task_at, tasks_from, tasks_of, groups_of, kinds_of, IsPlan}
-use Rattle.capture_terms.specs.Classes.{kind_of}
-use Rattle.capture_terms.specs.Capture.{contents_of, link_numbered}
+use Rattle.capture_terms.specs.Generations.{in_generations}
+use Rattle.capture_terms.specs.Plan.{task_at, tasks_from, tasks_of, groups_of, timed, kinds_of, IsPlan}
+use Rattle.capture_terms.specs.Capture.{contents_of}
 use Rattle.capture_terms.specs.declared.capture.Capture.{Capture}
 use Rattle.capture_terms.specs.declared.capture.Frame.{Frame}
 use Rattle.capture_terms.specs.declared.plan.Plan.{Plan}
 use Rattle.ipv4_fragments.specs.declared.sorting.Sorting.{Sorting}
 use Rattle.ipv4_fragments.specs.Groups.{Follows}
-use Rattle.ipv4_fragments.specs.Sorting.{Holds}
+use Rattle.ipv4_fragments.specs.Generations.{Tells}
+use Rattle.ipv4_fragments.specs.Sorting.{AreSorted, Holds}
 
 behind_push : (kept : List Piece) (kinds : List Kind) (kind : Kind) → classes_behind kept (kinds ++ kind ∷ []) ≡ classes_behind kept kinds ++ class_behind (kept ++ kept_among (classes_behind kept kinds) kinds) kind ∷ []
 behind_push kept [] kind = ap (λ (l : List Piece). class_behind l kind ∷ []) (sym (append-nil kept))
@@ -70,16 +71,16 @@ tasks_push groups kinds kind =
     ∙ tasks_push_at groups 0 (classes_of kinds) kinds (class_behind (kept_of kinds) kind) kind (length_classes kinds)
     ∙ ap (λ (n : ℕ). tasks_from groups 0 (classes_of kinds) kinds ++ option_to_list (task_at groups n (class_behind (kept_of kinds) kind) kind)) here
 
-pub holds_more : (old new : Sorting) (kinds : List Kind) (kind : Kind) (number : ℕ) (class : Class) (task : Option Task) (extra : List Group)
-    → number ≡ length kinds → Holds old kinds
+pub sorted_more : (old new : Sorting) (kinds : List Kind) (kind : Kind) (number : ℕ) (class : Class) (task : Option Task) (extra : List Group)
+    → number ≡ length kinds → AreSorted old kinds
     → class ≡ class_behind (kept_of kinds) kind
     → Follows new.groups (kept_of kinds ++ option_to_list (kept_piece class kind))
     → new.groups.known ≡ old.groups.known ++ extra
     → ((more : List Group) → task ≡ task_at (new.groups.known ++ more) number class kind)
     → new.classes.items ≡ old.classes.items ++ class ∷ []
     → new.tasks.items ≡ old.tasks.items ++ option_to_list task
-    → Holds new (kinds ++ kind ∷ [])
-holds_more old new kinds kind number class task extra here before is follows keys made classes tasks = record {
+    → AreSorted new (kinds ++ kind ∷ [])
+sorted_more old new kinds kind number class task extra here before is follows keys made classes tasks = record {
   classes = classes ∙ ap (λ (l : List Class). l ++ class ∷ []) before.classes ∙ ap (λ (k : Class). classes_of kinds ++ k ∷ []) is ∙ sym (classes_push kinds kind);
   groups = subst (Follows new.groups) (ap (λ (k : Class). kept_of kinds ++ option_to_list (kept_piece k kind)) is ∙ sym (kept_push kinds kind)) follows;
   tasks = λ more.
@@ -89,21 +90,25 @@ holds_more old new kinds kind number class task extra here before is follows key
       ∙ sym (tasks_push (new.groups.known ++ more) kinds kind);
 }
 
-pub holds_none : (sorting : Sorting) → sorting.classes.items ≡ [] → sorting.tasks.items ≡ [] → Follows sorting.groups [] → Holds sorting []
-unfolding classes_of kept_of
-holds_none sorting classes tasks follows = record { classes = classes; groups = follows; tasks = λ more. tasks }
+pub holds_none : (sorting : Sorting) → sorting.classes.items ≡ [] → sorting.tasks.items ≡ [] → Follows sorting.groups [] → Tells sorting.generations [] → Holds sorting []
+unfolding classes_of kept_of in_generations
+holds_none sorting classes tasks follows tells = record { tells = tells; sorted = record { classes = classes; groups = follows; tasks = λ more. tasks } }
 
-pub plan_from : (bytes : List ℕ) (capture : Capture) (sorting : Sorting) (plan : Plan) (number : ℕ)
-    → Holds sorting (map (kind_of (link_numbered capture.link) bytes) (take number capture.frames.items)) → length capture.frames.items ≤ number
+pub plan_from : (bytes : List ℕ) (capture : Capture) (window : ℕ) (sorting : Sorting) (plan : Plan) (number : ℕ)
+    → Holds sorting (map (timed bytes (contents_of capture)) (take number capture.frames.items)) → sorting.generations.window ≡ window * 1000000000 → length capture.frames.items ≤ number
     → plan.classes.items ≡ sorting.classes.items → plan.tasks.items ≡ sorting.tasks.items → plan.groups.items ≡ sorting.groups.known
-    → IsPlan bytes capture plan
+    → IsPlan bytes capture window plan
 unfolding tasks_of groups_of
-plan_from bytes capture sorting plan number holds all classes tasks groups =
+plan_from bytes capture window sorting plan number holds parted all classes tasks groups =
     let whole : take number capture.frames.items ≡ capture.frames.items = take_all number capture.frames.items all in
-    let now : Holds sorting (kinds_of bytes (contents_of capture)) = subst (λ (l : List Frame). Holds sorting (map (kind_of (link_numbered capture.link) bytes) l)) whole holds in
-    let known : sorting.groups.known ≡ groups_of (kinds_of bytes (contents_of capture)) = now.groups.known in
+    let kinds : List Kind = kinds_of bytes window (contents_of capture) in
+    let same : in_generations sorting.generations.window (map (timed bytes (contents_of capture)) (take number capture.frames.items)) ≡ kinds
+    = ap (λ (w : ℕ). in_generations w (map (timed bytes (contents_of capture)) (take number capture.frames.items))) parted
+    ∙ ap (λ (l : List Frame). in_generations (window * 1000000000) (map (timed bytes (contents_of capture)) l)) whole in
+    let now : AreSorted sorting kinds = subst (AreSorted sorting) same holds.sorted in
+    let known : sorting.groups.known ≡ groups_of kinds = now.groups.known in
     record {
       classes = classes ∙ now.classes;
-      tasks = tasks ∙ now.tasks [] ∙ ap (λ (l : List Group). tasks_from l 0 (classes_of (kinds_of bytes (contents_of capture))) (kinds_of bytes (contents_of capture))) (append-nil sorting.groups.known ∙ known);
+      tasks = tasks ∙ now.tasks [] ∙ ap (λ (l : List Group). tasks_from l 0 (classes_of kinds) kinds) (append-nil sorting.groups.known ∙ known);
       groups = groups ∙ known;
     }

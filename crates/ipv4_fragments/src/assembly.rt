@@ -1,8 +1,7 @@
 ghost use Rattle.std.specs.Prelude.{◌≡◌, ℕ, ◌+◌, ◌-◌, ◌≤◌, ◌<◌, ◌^◌, List, length, true, false, slice_index, slice_get, Some, IfOk, All, IsSomeAnd};
-ghost use Rattle.capture_terms.specs.declared.capture.Capture.{Capture};
 ghost use Rattle.capture_terms.specs.declared.plan.Task.{Task};
 ghost use Rattle.capture_terms.specs.Datagram.{holds, end_of_task, payload_of, IsDatagramAt};
-ghost use Rattle.capture_terms.specs.Plan.{IsClassifiable, IsPlan};
+ghost use Rattle.capture_terms.specs.Plan.{IsPlanned};
 ghost use Rattle.ipv4_fragments.specs.Payload.{byte_of, end_at, IsThere, AreThere, Agree, Stands};
 
 use capture_terms::{Plan, Task, datagram_law, numbers_law, packing_law};
@@ -78,7 +77,7 @@ pub fn payload(
     bytes: &[u8],
     tasks: &[u32],
 ) -> Result<Vec<u8>, AllocError>
-    requires plan { (capture : Capture) × IsClassifiable bytes.now capture × IsPlan bytes.now capture plan.now }
+    requires plan { IsPlanned bytes.now plan.now }
     requires tasks { (datagram : List Task) × IsDatagramAt plan.now.tasks.items tasks.now datagram }
     ensures bytes { IfOk result (λ payload. (datagram : List Task) → IsDatagramAt plan.now.tasks.items tasks.now datagram → payload.items ≡ payload_of bytes.now datagram) }
     ensures short { IfOk result (λ payload. length payload.items ≤ 65535) }

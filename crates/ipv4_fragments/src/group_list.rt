@@ -4,7 +4,8 @@ ghost use Rattle.std.specs.Option.{unwrap_or};
 ghost use Rattle.std.specs.BTreeMap.{get};
 ghost use Rattle.capture_terms.specs.declared.plan.Group.{Group};
 ghost use Rattle.capture_terms.specs.Kept.{is_same_group};
-ghost use Rattle.ipv4_fragments.specs.GroupList.{group_cmp, AreNumbered, HasNumber, IsPlaceOf};
+ghost use Rattle.ipv4_fragments.specs.Maps.{HasPut};
+ghost use Rattle.ipv4_fragments.specs.GroupList.{group_cmp, AreNumbered, IsPlaceOf};
 
 use capture_terms::Group;
 use std::alloc::{AllocError, Global};
@@ -30,13 +31,17 @@ impl Model for GroupList {
     ghost invariant = { λ l. AreNumbered l.numbers l.groups.items };
 }
 
-// The number of a group, which is the next one where it has none yet.
-fn number_of(numbers: &mut BTreeMap<Group, u32>, group: Group, next: u32) -> Result<u32, AllocError>
-    ensures number { IfOk result (λ number. number ≡ unwrap_or (get group_cmp numbers.old group) next) }
-    ensures put { IfOk result (λ number. HasNumber numbers.old numbers.new group number) }
+// The number of a key, which is the next one where it has none yet.
+fn number_of<K: Ord + Drop>(
+    numbers: &mut BTreeMap<K, u32>,
+    key: K,
+    next: u32,
+) -> Result<u32, AllocError>
+    ensures number { IfOk result (λ number. number ≡ unwrap_or (get K.cmp numbers.old key) next) }
+    ensures put { IfOk result (λ number. HasPut K.cmp numbers.old numbers.new key number) }
     ensures kept { OnErr result (numbers.new.entries ≡ numbers.old.entries) }
 {
-    Ok(*numbers.entry(group)?.or_insert(next))
+    Ok(*numbers.entry(key)?.or_insert(next))
 }
 
 impl GroupList {

@@ -45,6 +45,7 @@ impl Groups {
         let group = Group {
             header: piece.header,
             id: piece.id,
+            generation: piece.generation,
         };
         let (number, is_new) = self.known.insert(group)?;
         if is_new {

@@ -185,6 +185,7 @@ fn piece_of(at: u64, datagram: &[u8]) -> Piece
             protocol: datagram[9],
         },
         id: u16_at(datagram, 4),
+        generation: 0,
         start: data_start(datagram),
         length: data_length(datagram),
         last: !has_more_fragments(datagram),

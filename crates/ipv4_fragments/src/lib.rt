@@ -2,6 +2,7 @@
 #![tactic(auto)]
 
 mod assembly;
+mod generations;
 mod group_list;
 mod groups;
 mod header;

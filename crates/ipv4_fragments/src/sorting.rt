@@ -3,15 +3,18 @@ ghost use Rattle.capture_terms.specs.declared.datagram.Piece.{Piece};
 ghost use Rattle.capture_terms.specs.declared.datagram.Kind.{Kind};
 ghost use Rattle.capture_terms.specs.declared.plan.Group.{Group};
 ghost use Rattle.capture_terms.specs.declared.plan.Task as declared;
+ghost use Rattle.capture_terms.specs.Generations.{Timed, kind_behind};
 ghost use Rattle.capture_terms.specs.Kept.{class_behind, kept_piece};
 ghost use Rattle.capture_terms.specs.Plan.{task_of, task_at, IsClassifiable, IsPlan};
+ghost use Rattle.ipv4_fragments.specs.Generations.{frame_at, Tells};
 ghost use Rattle.ipv4_fragments.specs.Groups.{Follows};
 ghost use Rattle.ipv4_fragments.specs.Header.{HasPlaces};
 ghost use Rattle.ipv4_fragments.specs.Sorting.{Holds};
 
+use crate::generations::Generations;
 use crate::groups::Groups;
 use crate::header::kind_of;
-use capture_terms::{Capture, Class, Kind, Link, Piece, Plan, Task};
+use capture_terms::{Capture, Class, Kind, Link, Piece, Plan, Task, generation_law};
 use std::alloc::{AllocError, Global};
 
 /// What is made of the frames so far.
@@ -19,6 +22,7 @@ use std::alloc::{AllocError, Global};
 pub struct Sorting {
     pub classes: Vec<Class>,
     pub tasks: Vec<Task>,
+    pub generations: Generations,
     pub groups: Groups,
 }
 
@@ -34,6 +38,25 @@ fn make_task(frame: u32, group: Option<u32>, piece: &Piece) -> Task
         length: piece.length,
         last: piece.last,
     }
+}
+
+// What a further frame is that was captured at a time in nanoseconds, a fragment in its generation.
+fn in_generation(generations: &mut Generations, kind: &Kind, time: u64) -> Result<Kind, AllocError>
+    requires places { HasPlaces kind.now }
+    requires tells { (frames : List Timed) × Tells generations.old frames × (length frames < 2 ^ 32 - 1) }
+    ensures places { IfOk result HasPlaces }
+    ensures kind { IfOk result (λ now. (frames : List Timed) → Tells generations.old frames → now ≡ kind_behind generations.old.window frames time kind.now) }
+    ensures tells { OnOk result ((frames : List Timed) → Tells generations.old frames → Tells generations.new (frames ++ frame_at time kind.now ∷ [])) }
+    ensures window { generations.new.window ≡ generations.old.window }
+{
+    let Kind::Fragment(piece) = kind else {
+        return Ok(*kind);
+    };
+    let generation = generations.tell(piece, time)?;
+    Ok(Kind::Fragment(Piece {
+        generation,
+        ..*piece
+    }))
 }
 
 // Tells the class of a further frame, and adds its task, if it has one.
@@ -72,9 +95,11 @@ fn settle(
 }
 
 impl Sorting {
-    /// What is made of no frames, with room for what is made of so many.
-    pub fn with_room(alloc: Global, frames: usize) -> Result<Sorting, AllocError>
+    /// What is made of no frames, with room for what is made of so many. Generations are parted by a
+    /// window in nanoseconds.
+    pub fn with_room(alloc: Global, frames: usize, window: u64) -> Result<Sorting, AllocError>
         ensures holds { IfOk result (λ sorting. Holds sorting []) }
+        ensures window { IfOk result (λ sorting. sorting.generations.window ≡ window) }
         ensures empty { IfOk result (λ sorting. length sorting.groups.known ≡ 0) }
     {
         let classes = Vec::with_capacity(alloc, frames)?;
@@ -82,20 +107,31 @@ impl Sorting {
         Ok(Sorting {
             classes,
             tasks,
+            generations: Generations::new(alloc, window),
             groups: Groups::new(alloc),
         })
     }
 
-    /// Adds what is made of a further frame.
-    pub fn add(&mut self, alloc: Global, number: u32, kind: &Kind) -> Result<(), AllocError>
+    /// Adds what is made of a further frame, which was captured at a time in nanoseconds.
+    pub fn add(
+        &mut self,
+        alloc: Global,
+        number: u32,
+        time: u64,
+        kind: &Kind,
+    ) -> Result<(), AllocError>
         requires places { HasPlaces kind.now }
         requires few { length self.old.groups.known < 2 ^ 32 - 1 }
         requires long { vec_len self.old.groups.ranges ≡ length self.old.groups.known }
+        requires tells { (frames : List Timed) × Tells self.old.generations frames × (length frames < 2 ^ 32 - 1) }
         ensures long { OnOk result (vec_len self.new.groups.ranges ≡ length self.new.groups.known) }
         ensures grows { length self.new.groups.known ≤ length self.old.groups.known + 1 }
-        ensures holds { OnOk result ((kinds : List Kind) → number ≡ length kinds → Holds self.old kinds → Holds self.new (kinds ++ kind.now ∷ [])) }
+        ensures window { self.new.generations.window ≡ self.old.generations.window }
+        ensures holds { OnOk result ((frames : List Timed) → number ≡ length frames → Holds self.old frames → Holds self.new (frames ++ frame_at time kind.now ∷ [])) }
     {
-        let class = settle(alloc, &mut self.groups, &mut self.tasks, number, kind)?;
+        generation_law();
+        let kind = in_generation(&mut self.generations, kind, time)?;
+        let class = settle(alloc, &mut self.groups, &mut self.tasks, number, &kind)?;
         self.classes.push(class)?;
         Ok(())
     }
@@ -103,20 +139,28 @@ impl Sorting {
 
 /// Tells the class of each frame of a capture, and plans the work on its datagrams.
 ///
-/// A fragment is kept unless it clashes with a kept fragment before it of the same source,
-/// destination, protocol and identification. The tasks are the whole datagrams and the kept
-/// fragments, and the groups are those of the kept fragments, all in capture order.
+/// The fragments of one source, destination, protocol and identification are cut into generations: a
+/// generation begins with the first of them, and with each that is later than the last beginning by
+/// more than the window, in seconds. A fragment is kept unless it clashes with a kept fragment before
+/// it of the same generation. The tasks are the whole datagrams and the kept fragments, and the
+/// groups are those of the kept fragments, all in capture order.
 ///
 /// The one error is want of memory.
-pub fn classify(alloc: Global, capture: &Capture, bytes: &[u8]) -> Result<Plan, AllocError>
+pub fn classify(
+    alloc: Global,
+    capture: &Capture,
+    bytes: &[u8],
+    window: u32,
+) -> Result<Plan, AllocError>
     requires { IsClassifiable bytes.now capture.now }
-    ensures { IfOk result (λ plan. IsPlan bytes.now capture.now plan) }
+    ensures { IfOk result (λ plan. IsPlan bytes.now capture.now window plan) }
 {
     let link = Link::numbered(capture.link);
-    let mut sorting = Sorting::with_room(alloc, capture.frames.len())?;
+    let nanoseconds = u64::from(window) * 1_000_000_000;
+    let mut sorting = Sorting::with_room(alloc, capture.frames.len(), nanoseconds)?;
     for (number, frame) in capture.frames.iter().enumerate() {
         let kind = kind_of(link, bytes, frame);
-        sorting.add(alloc, number as u32, &kind)?;
+        sorting.add(alloc, number as u32, frame.time(capture.nanos), &kind)?;
     }
     Ok(Plan {
         classes: sorting.classes,

@@ -125,12 +125,12 @@ fn add_fragment(made: &mut Made, given: &Given) -> Result<(), AllocError> {
 
 fn plan_of(alloc: Global, made: &Made) -> Result<Plan, Fail>
     ensures fine { OnOk result (IsClassifiable made.now.bytes.items made.now.capture) }
-    ensures plan { IfOk result (IsPlan made.now.bytes.items made.now.capture) }
+    ensures plan { IfOk result (IsPlan made.now.bytes.items made.now.capture 30) }
 {
     if !is_classifiable(made) {
         return Err(Fail::from("frames that lie in the bytes"));
     }
-    Ok(classify(alloc, &made.capture, &made.bytes)?)
+    Ok(classify(alloc, &made.capture, &made.bytes, 30)?)
 }
 
 fn check(
@@ -307,7 +307,7 @@ fn tells_the_other_classes(rt: HostRuntime) -> Result<(), Fail> {
 
 fn data_of(alloc: Global, made: &Made, plan: &Plan, tasks: &[u32]) -> Result<Vec<u8>, AllocError>
     requires fine { IsClassifiable made.now.bytes.items made.now.capture }
-    requires plan { IsPlan made.now.bytes.items made.now.capture plan.now }
+    requires plan { IsPlan made.now.bytes.items made.now.capture 30 plan.now }
     requires tasks { (datagram : List Task) × IsDatagramAt plan.now.tasks.items tasks.now datagram }
 {
     payload(alloc, plan, &made.bytes, tasks)

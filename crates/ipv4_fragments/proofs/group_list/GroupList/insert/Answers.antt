@@ -1,11 +1,12 @@
-use Rattle.std.proofs.Common.{◌≡◌, ◌∷◌, [], ◌++◌, sym, ◌∙◌, ap, arith, subst, false, List, length, ℕ}
+use Rattle.std.proofs.Common.{◌≡◌, ◌∷◌, [], ◌++◌, sym, ◌∙◌, ap, arith, subst, false, List, length, length-append, ℕ}
 use Rattle.std.specs.Prelude.{not}
 use Rattle.std.specs.List.{list_any}
 use Rattle.std.proofs.lemmas.Grind.{common_steps}
 use Rattle.capture_terms.specs.declared.plan.Group.{Group}
 use Rattle.capture_terms.specs.Kept.{is_same_group}
-use Rattle.ipv4_fragments.specs.GroupList.{AreNumbered, HasNumber}
-use Rattle.ipv4_fragments.proofs.GroupNumbers.{told_known, told_new, first_none, numbered_more}
+use Rattle.ipv4_fragments.specs.GroupList.{AreNumbered, group_cmp}
+use Rattle.ipv4_fragments.specs.Maps.{HasPut}
+use Rattle.ipv4_fragments.proofs.GroupNumbers.{told_known, told_new, numbered_known, first_none, numbered_more}
 use Rattle.ipv4_fragments.proofs.group_list.GroupList.insert.Goals as goal
 use Rattle.ipv4_fragments.proofs.group_list.GroupList.insert.Goals.{After-unwrap}
 
@@ -20,6 +21,12 @@ returns-then-number-next-clause-keys c =
     rw (told_known c.self.inside.numbers c.self.inside.groups.items c.args.self.now c.args.group c.in_ok-number.number c.len-next.result c.self.invariant c.self.view_is next c.in_ok-number.ensures.number c.if-number-next.true)
     (c.reserve.ensures.items ∙ c.self.view_is)
 
+pub invariant_of-self-then-number-next : goal.invariant_of-self-then-number-next
+invariant_of-self-then-number-next c =
+    let next : c.len-next.result ≡ length c.self.inside.groups.items = grind (arith, common_steps) in
+    subst (AreNumbered c.number_of.new.numbers) (sym c.reserve.ensures.items)
+    (numbered_known c.self.inside.numbers c.self.inside.groups.items c.args.self.now c.args.group c.in_ok-number.number c.len-next.result c.self.invariant c.self.view_is next c.in_ok-number.ensures.number c.number_of.new.numbers c.in_ok-number.ensures.put c.if-number-next.true)
+
 next : (c : After-unwrap) → c.len-next.result ≡ length c.self.inside.groups.items
 next c = grind (arith, common_steps)
 
@@ -31,7 +38,7 @@ pushed c = c.push.ensures.items ∙ (rw c.unwrap.ensures (ap (λ (l : List Group
 
 more : (c : After-unwrap) → AreNumbered c.number_of.new.numbers c.push.new.self.items
 more c =
-    let put : HasNumber c.self.inside.numbers c.number_of.new.numbers c.args.group (length c.self.inside.groups.items) = subst (λ (n : ℕ). HasNumber c.self.inside.numbers c.number_of.new.numbers c.args.group n) (new c).1 c.in_ok-number.ensures.put in
+    let put : HasPut group_cmp c.self.inside.numbers c.number_of.new.numbers c.args.group (length c.self.inside.groups.items) = subst (λ (n : ℕ). HasPut group_cmp c.self.inside.numbers c.number_of.new.numbers c.args.group n) (new c).1 c.in_ok-number.ensures.put in
     subst (AreNumbered c.number_of.new.numbers) (sym (pushed c)) (numbered_more c.self.inside.numbers c.number_of.new.numbers c.self.inside.groups.items c.args.group c.self.invariant (new c).0 put)
 
 unknown : (c : After-unwrap) → list_any (is_same_group c.args.group) c.args.self.now ≡ false
@@ -51,3 +58,6 @@ returns-clause-index c = (new c).1 ∙ ap (length {A = Group}) c.self.view_is �
 
 pub returns-clause-unique : goal.returns-clause-unique
 returns-clause-unique c = (more c).differ
+
+pub returns-clause-within : goal.returns-clause-within
+returns-clause-within c = omega (arith, (new c).1, ap (length {A = Group}) (pushed c), length-append c.self.inside.groups.items (c.args.group ∷ []))
