@@ -123,14 +123,14 @@ fn add_fragment(made: &mut Made, given: &Given) -> Result<(), AllocError> {
     add_frame(made, &head, &data[..data.len() % 1024])
 }
 
-fn plan_of(alloc: Global, made: &Made) -> Result<Plan, Fail>
+fn plan_of(alloc: Global, made: &Made, window: u32) -> Result<Plan, Fail>
     ensures fine { OnOk result (IsClassifiable made.now.bytes.items made.now.capture) }
-    ensures plan { IfOk result (IsPlan made.now.bytes.items made.now.capture 30) }
+    ensures plan { IfOk result (IsPlan made.now.bytes.items made.now.capture window) }
 {
     if !is_classifiable(made) {
         return Err(Fail::from("frames that lie in the bytes"));
     }
-    Ok(classify(alloc, &made.capture, &made.bytes, 30)?)
+    Ok(classify(alloc, &made.capture, &made.bytes, window)?)
 }
 
 fn check(
@@ -140,7 +140,7 @@ fn check(
     classes: &[Class],
     wanted: &[Wanted],
 ) -> Result<(), Fail> {
-    let plan = plan_of(alloc, made)?;
+    let plan = plan_of(alloc, made, 30)?;
     assert_eq!(rt; plan.classes.as_slice(), classes);
     let mut tasks: Vec<Wanted> = Vec::new(alloc);
     for task in &plan.tasks {
@@ -254,6 +254,135 @@ fn keeps_the_earlier_of_fragments_that_clash(rt: HostRuntime) -> Result<(), Fail
     Ok(())
 }
 
+/// The seconds and fraction of a fragment, the place of its data, and whether more follow.
+type At = (u32, u32, u16, bool);
+
+// Adds a fragment of identification 1 with 8 bytes of data, captured at a time.
+fn add_at(made: &mut Made, at: &At) -> Result<(), AllocError> {
+    let (seconds, fraction, start, more) = *at;
+    add_fragment(made, &(1, start, more, b"abcdefgh".as_slice()))?;
+    if let Some(frame) = made.capture.frames.last_mut() {
+        frame.seconds = seconds;
+        frame.fraction = fraction;
+    }
+    Ok(())
+}
+
+// Checks the classes of fragments, and the generation of each kept one.
+fn check_times(
+    rt: &impl Abort,
+    alloc: Global,
+    nanos: bool,
+    window: u32,
+    times: &[At],
+    classes: &[Class],
+    generations: &[u32],
+) -> Result<(), Fail> {
+    let mut made = no_frames(alloc, ETHERNET);
+    made.capture.nanos = nanos;
+    for at in times {
+        add_at(&mut made, at)?;
+    }
+    let plan = plan_of(alloc, &made, window)?;
+    assert_eq!(rt; plan.classes.as_slice(), classes);
+    let mut told = Vec::new(alloc);
+    for task in &plan.tasks {
+        let group = task.group.and_then(|group| plan.groups.get(group as usize));
+        told.push(group.map_or(u32::MAX, |group| group.generation))?;
+    }
+    assert_eq!(rt; told.as_slice(), generations);
+    Ok(())
+}
+
+#[test]
+fn cuts_the_fragments_of_a_key_into_generations(rt: HostRuntime) -> Result<(), Fail> {
+    let alloc = rt.alloc();
+    let (kept, aside) = (Class::Kept, Class::Aside);
+    let first = (0, 0, 0, true);
+    let in_time = (30, 0, 8, false);
+    let late = (30, 1, 8, false);
+    check_times(
+        &rt,
+        alloc,
+        false,
+        30,
+        &[first, in_time],
+        &[kept, kept],
+        &[0, 0],
+    )?;
+    check_times(
+        &rt,
+        alloc,
+        false,
+        30,
+        &[first, late],
+        &[kept, kept],
+        &[0, 1],
+    )?;
+    check_times(&rt, alloc, true, 30, &[first, late], &[kept, kept], &[0, 1])?;
+    check_times(
+        &rt,
+        alloc,
+        false,
+        31,
+        &[first, late],
+        &[kept, kept],
+        &[0, 0],
+    )?;
+    check_times(
+        &rt,
+        alloc,
+        true,
+        30,
+        &[
+            first,
+            (29, 999_999_999, 0, true),
+            (29, 1_000_000_001, 0, true),
+        ],
+        &[kept, aside, kept],
+        &[0, 1],
+    )?;
+    check_times(
+        &rt,
+        alloc,
+        false,
+        30,
+        &[first, (40, 0, 0, true), (41, 0, 8, false)],
+        &[kept, kept, kept],
+        &[0, 1, 1],
+    )?;
+    check_times(
+        &rt,
+        alloc,
+        false,
+        30,
+        &[
+            first,
+            (30, 0, 0, true),
+            (31, 0, 0, true),
+            (61, 0, 0, true),
+            (62, 0, 0, true),
+        ],
+        &[kept, aside, kept, aside, kept],
+        &[0, 1, 2],
+    )?;
+    check_times(
+        &rt,
+        alloc,
+        false,
+        30,
+        &[
+            (40, 0, 0, true),
+            (0, 0, 0, true),
+            (41, 0, 0, true),
+            (0, 0, 8, true),
+        ],
+        &[kept, aside, aside, kept],
+        &[0, 0],
+    )?;
+    Ok(())
+}
+
 #[test]
 fn finds_datagrams_behind_cooked_headers(rt: HostRuntime) -> Result<(), Fail> {
     let alloc = rt.alloc();
@@ -318,7 +447,7 @@ fn gives_the_data_of_a_whole_datagram(rt: HostRuntime) -> Result<(), Fail> {
     let alloc = rt.alloc();
     let mut made = no_frames(alloc, ETHERNET);
     add_frame(&mut made, IPV4, HELLO)?;
-    let plan = plan_of(alloc, &made)?;
+    let plan = plan_of(alloc, &made, 30)?;
     assert_eq!(rt; plan.tasks.len(), 1);
     assert!(rt; plan.tasks[0].group.is_none());
     let data = data_of(alloc, &made, &plan, &[0])?;
@@ -371,7 +500,7 @@ fn gives_the_data_of_a_group_in_any_order_of_its_tasks(rt: HostRuntime) -> Resul
     let mut made = no_frames(alloc, ETHERNET);
     add_fragment(&mut made, &(1, 8, false, b"ijkl".as_slice()))?;
     add_fragment(&mut made, &(1, 0, true, b"abcdefgh".as_slice()))?;
-    let plan = plan_of(alloc, &made)?;
+    let plan = plan_of(alloc, &made, 30)?;
     let are_both = are_end_and_front(&plan.tasks);
     assert!(rt; are_both);
     let data = data_of(alloc, &made, &plan, &[1, 0])?;
