@@ -10,7 +10,6 @@ use Rattle.capture_terms.specs.Datagram.{is_member, members, is_complete, incomp
 use Rattle.capture_terms.specs.declared.plan.Group.{Group}
 use Rattle.capture_terms.specs.declared.plan.Task.{Task}
 use Rattle.std.proofs.lemmas.Option.{slice_get-get_or, slice_get_within, get_or_from_slice_get}
-use Rattle.capture_terms.proofs.PlanLaw.{member_group}
 use Rattle.rule_terms.specs.Rule.{Rule}
 use Rattle.inspection_terms.specs.Findings.{findings_in, all_findings}
 use Rattle.serial_terms.specs.Counts.{times}
@@ -22,7 +21,7 @@ use Rattle.run_stages.specs.FromCapture.{whole_values, work_of}
 use Rattle.run_stages.proofs.Counting.{total_same, times_cons_same, times_cons_more, times_cons_other, task_items, group_items, task_no_group}
 use Rattle.run_stages.proofs.Matching.{task_item_values, group_item_values, values_append}
 use Rattle.run_stages.proofs.Finishing.{item_cases, same_values, finds_all, incomplete_alone}
-use Rattle.run_stages.proofs.FromTasks.{one_if, count_range, incomplete_iff, nth, nth_is, long, below, group_at, complete_passes, passes_complete}
+use Rattle.run_stages.proofs.FromTasks.{MembersAre, one_if, count_range, incomplete_iff, nth, nth_is, long, below, group_at, complete_passes, passes_complete}
 use Rattle.std.proofs.lemmas.Bool.{cases_Bool}
 use Rattle.std.proofs.lemmas.List.{append-nil}
 use Rattle.serial_terms.specs.Facts.{times_append}
@@ -238,16 +237,16 @@ module _ (rules : List Rule) (bytes : List ℕ) (tasks : List Task) (groups : Li
   group_is : (i : ℕ) → i < length tasks → (task work i).group ≡ (get_or tasks i some).group
   group_is i l = group_at rules bytes tasks groups i ∙ ap (λ (t : Task). t.group) (nth_is rules bytes tasks groups i some l)
 
-  pub all_items : AllPairs IsBefore tasks → AreAllDatagrams work items
-  all_items pairs = record {
+  pub all_items : MembersAre → AllPairs IsBefore tasks → AreAllDatagrams work items
+  all_items m pairs = record {
     whole = λ i a. task_at tasks i i 0 some tasks (below rules bytes tasks groups i a.below) (omega arith) (sym (group_is i (below rules bytes tasks groups i a.below)) ∙ a.alone);
     only_whole = λ i l.
         let o = task_only tasks i 0 tasks l in
         let same : o.0 ≡ i = omega (arith, o.2) in
         let inside : i < length tasks = omega (arith, o.1) in
         record { below = (let n = long rules bytes tasks groups in omega arith); alone = group_is i inside ∙ (ap (λ (z : ℕ). (get_or tasks z some).group) (sym same) ∙ o.3 some) };
-    group = λ h c. group_times tasks h 0 tasks ∙ once_begun pairs h (complete_passes rules bytes tasks groups h c);
-    only_group = λ h l. ⊎_elim (λ e. passes_complete rules bytes tasks groups h e) (λ e. let z = never_begun h e in let a = group_times tasks h 0 tasks in absurd (omega arith)) (cases_Bool (is_complete (members tasks h)));
+    group = λ h c. group_times tasks h 0 tasks ∙ once_begun pairs h (complete_passes rules bytes tasks groups m h c);
+    only_group = λ h l. ⊎_elim (λ e. passes_complete rules bytes tasks groups m h e) (λ e. let z = never_begun h e in let a = group_times tasks h 0 tasks in absurd (omega arith)) (cases_Bool (is_complete (members tasks h)));
   }
 
   -- ---- their values are the findings
@@ -292,11 +291,11 @@ module _ (rules : List Rule) (bytes : List ℕ) (tasks : List Task) (groups : Li
 
   -- ---- so are those of any list of them, and what a finished run has in its log
 
-  pub values_found : AllPairs IsBefore tasks → (xs : List ℕ) → AreAllDatagrams work xs → IsPermutation (values_of work xs) (all_findings rules bytes tasks)
-  values_found pairs xs a = subst (λ (z : List ℕ). IsPermutation (values_of work xs) z) items_values (same_values work xs items (same_times work xs items a (all_items pairs)))
+  pub values_found : MembersAre → AllPairs IsBefore tasks → (xs : List ℕ) → AreAllDatagrams work xs → IsPermutation (values_of work xs) (all_findings rules bytes tasks)
+  values_found m pairs xs a = subst (λ (z : List ℕ). IsPermutation (values_of work xs) z) items_values (same_values work xs items (same_times work xs items a (all_items m pairs)))
 
-  pub log_found : AllPairs IsBefore tasks → (s : State) → IsLawful work s → IsFinished work s → IsPermutation (all_findings rules bytes tasks) (s.logs 0).items
-  log_found pairs s l f = subst (λ (z : List ℕ). IsPermutation z (s.logs 0).items) items_values (finds_all work s l f items (all_items pairs))
+  pub log_found : MembersAre → AllPairs IsBefore tasks → (s : State) → IsLawful work s → IsFinished work s → IsPermutation (all_findings rules bytes tasks) (s.logs 0).items
+  log_found m pairs s l f = subst (λ (z : List ℕ). IsPermutation z (s.logs 0).items) items_values (finds_all work s l f items (all_items m pairs))
 
 -- ---- the datagrams that items stand for
 
@@ -325,25 +324,25 @@ module _ (rules : List Rule) (bytes : List ℕ) (tasks : List Task) (groups : Li
         task_value rules bytes tasks groups i ∙ ap (λ (o : Option Task). option_map_or (λ (u : Task). findings_in rules bytes (u ∷ [])) o []) at,
       )
 
-  pub group_datagram : (h : ℕ) (numbers : List ℕ) → IsComplete (work_of rules bytes tasks groups) h
+  pub group_datagram : MembersAre → (h : ℕ) (numbers : List ℕ) → IsComplete (work_of rules bytes tasks groups) h
       → ((i : ℕ) → IsMember (work_of rules bytes tasks groups) h i → 0 < times i numbers) → ((i : ℕ) → 0 < times i numbers → IsMember (work_of rules bytes tasks groups) h i)
       → (datagram : List Task) × IsDatagramAt tasks numbers datagram × ((work_of rules bytes tasks groups).group_values h ≡ findings_in rules bytes datagram)
-  group_datagram h numbers c every only = (
+  group_datagram m h numbers c every only = (
     members tasks h,
     inr (record {
       group = h;
       each = λ k d l.
-          let m = only (get_or numbers k d) (list_in numbers k d l) in
-          subst (λ (o : Option Task). IsSomeAnd o (λ task. is_member h task ≡ true)) (sym (there (get_or numbers k d) (below rules bytes tasks groups (get_or numbers k d) m.below)))
-          (group_member h (nth rules bytes tasks groups (get_or numbers k d)) (sym (group_at rules bytes tasks groups (get_or numbers k d)) ∙ m.belongs));
+          let one = only (get_or numbers k d) (list_in numbers k d l) in
+          subst (λ (o : Option Task). IsSomeAnd o (λ task. is_member h task ≡ true)) (sym (there (get_or numbers k d) (below rules bytes tasks groups (get_or numbers k d) one.below)))
+          (group_member h (nth rules bytes tasks groups (get_or numbers k d)) (sym (group_at rules bytes tasks groups (get_or numbers k d)) ∙ one.belongs));
       all = λ number t at is.
           let inside : number < length tasks = slice_get_within tasks number t at in
           let nth_at : nth rules bytes tasks groups number ≡ t = nth_is rules bytes tasks groups number t inside ∙ get_or_from_slice_get tasks number t t at in
           in_list number numbers (every number (record {
             below = (let n = long rules bytes tasks groups in let i = inside in omega arith);
-            belongs = group_at rules bytes tasks groups number ∙ (ap (λ (u : Task). u.group) nth_at ∙ member_group h t is);
+            belongs = group_at rules bytes tasks groups number ∙ (ap (λ (u : Task). u.group) nth_at ∙ m.named h t is);
           }));
-      complete = complete_passes rules bytes tasks groups h c;
+      complete = complete_passes rules bytes tasks groups m h c;
       is = refl;
     }),
     group_value rules bytes tasks groups h,
@@ -354,12 +353,12 @@ module _ (rules : List Rule) (bytes : List ℕ) (tasks : List Task) (groups : Li
 
 -- ---- the groups that have a word at the end
 
-module _ (rules : List Rule) (bytes : List ℕ) (tasks : List Task) (groups : List Group) (p : IsSoundWork (work_of rules bytes tasks groups)) (s : State) (l : IsLawful (work_of rules bytes tasks groups) s) (f : IsFinished (work_of rules bytes tasks groups) s) where
+module _ (rules : List Rule) (bytes : List ℕ) (tasks : List Task) (groups : List Group) (p : IsSoundWork (work_of rules bytes tasks groups)) (s : State) (l : IsLawful (work_of rules bytes tasks groups) s) (f : IsFinished (work_of rules bytes tasks groups) s) (m : MembersAre) where
   word_incomplete : (h x : ℕ) → s.maps 0 h ≡ Some x → (h < length groups) × (is_complete (members tasks h) ≡ false)
-  word_incomplete h x e = (incomplete_iff rules bytes tasks groups h).0 ((incomplete_alone (work_of rules bytes tasks groups) s l f p).0 h x e)
+  word_incomplete h x e = (incomplete_iff rules bytes tasks groups m h).0 ((incomplete_alone (work_of rules bytes tasks groups) s l f p).0 h x e)
 
   incomplete_word : (h : ℕ) → h < length groups → is_complete (members tasks h) ≡ false → IsSome (s.maps 0 h)
-  incomplete_word h m e = (incomplete_alone (work_of rules bytes tasks groups) s l f p).1 h ((incomplete_iff rules bytes tasks groups h).1 (m, e))
+  incomplete_word h less e = (incomplete_alone (work_of rules bytes tasks groups) s l f p).1 h ((incomplete_iff rules bytes tasks groups m h).1 (less, e))
 
   pub word_there : (h : ℕ) → IsSome (s.maps 0 h) → h < length groups
   word_there h e = by_case (s.maps 0 h) refl e
@@ -369,11 +368,11 @@ module _ (rules : List Rule) (bytes : List ℕ) (tasks : List Task) (groups : Li
       by_case (Some x) is e = (word_incomplete h x is).0
 
   has_word : (h : ℕ) → h < length groups → is_some (s.maps 0 h) ≡ not (is_complete (members tasks h))
-  has_word h m = by_case (s.maps 0 h) refl
+  has_word h less = by_case (s.maps 0 h) refl
     where
       lacking : s.maps 0 h ≡ None → (b : Bool) → is_complete (members tasks h) ≡ b → false ≡ not b
       lacking is true e = refl
-      lacking is false e = sym (ap is_some is) ∙ incomplete_word h m e
+      lacking is false e = sym (ap is_some is) ∙ incomplete_word h less e
 
       by_case : (o : Option ℕ) → s.maps 0 h ≡ o → is_some (s.maps 0 h) ≡ not (is_complete (members tasks h))
       by_case None is = ap is_some is ∙ lacking is (is_complete (members tasks h)) refl

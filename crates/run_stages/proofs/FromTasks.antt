@@ -3,7 +3,6 @@ use Rattle.std.proofs.Common.{◌≡◌, ℕ, zero, suc, ◌+◌, ◌<◌, Bool,
 use Rattle.std.specs.Prelude.{slice_get, Contains, filter, not, ◌&&◌, ◌==◌, sum_by, count_by, if◌then◌else◌, ◌↔◌}
 use Rattle.std.specs.List.{range_with_len}
 use Rattle.std.specs.Option.{option_map_or}
-use Rattle.std.proofs.lemmas.Bool.Decides.{nat_tests}
 use Rattle.std.proofs.lemmas.Bool.{cases_lt, true≢false}
 use Rattle.std.proofs.lemmas.List.{get_or_default}
 use lib.ListN.{get_or-map, length-map}
@@ -15,10 +14,7 @@ use Rattle.capture_terms.specs.Datagram.{end_of_task, size_of, is_member, member
 use Rattle.capture_terms.specs.Groups.{AreGrouped}
 use Rattle.capture_terms.specs.declared.plan.Group.{Group}
 use Rattle.capture_terms.specs.declared.plan.Task.{Task}
-use Rattle.capture_terms.proofs.Filters.{any_found, filter_contains}
-use Rattle.std.proofs.lemmas.Option.{slice_get_within, get_or_from_slice_get}
-use Rattle.capture_terms.proofs.PlanGroups.{member_of}
-use Rattle.capture_terms.proofs.PlanLaw.{member_group}
+use Rattle.std.proofs.lemmas.Option.{slice_get_within, slice_get-get_or, get_or_from_slice_get}
 use Rattle.rule_terms.specs.Rule.{Rule}
 use Rattle.serial_terms.specs.Counts.{times}
 use Rattle.run_stages.specs.Work.{Work, TaskFacts, IsSoundWork, IsMember, IsComplete, task, end_of, group_bytes, is_some_of, total_below}
@@ -64,13 +60,12 @@ count_range p a (suc n) =
 both : (a b : Bool) → a ≡ true → b ≡ true → (a && b) ≡ true
 both a b e f = ap (λ z. z && b) e ∙ f
 
-first_of_both : (a b : Bool) → (a && b) ≡ true → a ≡ true
-first_of_both true b e = refl
-first_of_both false b e = e
-
-second_of_both : (a b : Bool) → (a && b) ≡ true → b ≡ true
-second_of_both true b e = e
-second_of_both false b e = absurd (cc)
+-- what is known of the members of groups
+pub record MembersAre : Type 0 where
+  pub named : (number : ℕ) (task : Task) → is_member number task ≡ true → task.group ≡ Some number
+  pub each : (tasks : List Task) (number i : ℕ) (task : Task) → slice_get tasks i ≡ Some task → task.group ≡ Some number → Contains (members tasks number) task
+  pub only : (tasks : List Task) (number : ℕ) (task : Task) → Contains (members tasks number) task → (i : ℕ) × (slice_get tasks i ≡ Some task) × (task.group ≡ Some number)
+  pub complete : (tasks : List Task) → is_complete tasks ≡ true → (task : Task) × Contains tasks task × (task.last ≡ true) × (size_of tasks ≡ end_of_task task)
 
 module _ (rules : List Rule) (bytes : List ℕ) (tasks : List Task) (groups : List Group) where
   abbrev w : Work
@@ -161,52 +156,48 @@ module _ (rules : List Rule) (bytes : List ℕ) (tasks : List Task) (groups : Li
 
   -- ---- the complete groups
 
-  pub complete_passes : (h : ℕ) → IsComplete w h → is_complete (members tasks h) ≡ true
-  complete_passes h c =
-      let t : Task = nth c.ender in
-      let among : Contains (members tasks h) t = member_of tasks h c.ender no_task (below c.ender c.member.below) (is_of h c.ender c.member) in
-      let full : size_of (members tasks h) ≡ end_of_task t = sym (bytes_are h) ∙ (c.full ∙ end_at c.ender) in
-      list_any_at (λ (s : Task). s.last && (size_of (members tasks h) == end_of_task s)) (members tasks h) among.0 t among.1
-      (ap (λ (s : Task). s.last && (size_of (members tasks h) == end_of_task s)) among.2 ∙ both t.last (size_of (members tasks h) == end_of_task t) (sym (last_at c.ender) ∙ c.last) (eq-eqb (size_of (members tasks h)) (end_of_task t) full))
+  module _ (m : MembersAre) where
+    pub complete_passes : (h : ℕ) → IsComplete w h → is_complete (members tasks h) ≡ true
+    complete_passes h c =
+        let t : Task = nth c.ender in
+        let at = slice_get-get_or tasks c.ender no_task (below c.ender c.member.below) in
+        let among : Contains (members tasks h) t = m.each tasks h c.ender t at (is_of h c.ender c.member) in
+        let full : size_of (members tasks h) ≡ end_of_task t = sym (bytes_are h) ∙ (c.full ∙ end_at c.ender) in
+        list_any_at (λ (s : Task). s.last && (size_of (members tasks h) == end_of_task s)) (members tasks h) among.0 t among.1
+        (ap (λ (s : Task). s.last && (size_of (members tasks h) == end_of_task s)) among.2 ∙ both t.last (size_of (members tasks h) == end_of_task t) (sym (last_at c.ender) ∙ c.last) (eq-eqb (size_of (members tasks h)) (end_of_task t) full))
 
-  pub passes_complete : (h : ℕ) → is_complete (members tasks h) ≡ true → IsComplete w h
-  passes_complete h e =
-      let found = any_found (λ (s : Task). s.last && (size_of (members tasks h) == end_of_task s)) (members tasks h) e in
-      let t : Task = found.0 in
-      let place = filter_contains (is_member h) tasks t found.1 in
-      let there = get_or_from_slice_get tasks place.0 t no_task place.1 in
-      let member : IsMember w h place.0 = is_member_of h place.0 (slice_get_within tasks place.0 t place.1) (ap (λ (s : Task). s.group) there ∙ member_group h t place.2) in
-      let full : size_of (members tasks h) ≡ end_of_task t = same (size_of (members tasks h)) (end_of_task t) (second_of_both t.last (size_of (members tasks h) == end_of_task t) found.2) in
-      record {
-        ender = place.0;
-        member = member;
-        last = last_at place.0 ∙ (ap (λ (s : Task). s.last) there ∙ first_of_both t.last (size_of (members tasks h) == end_of_task t) found.2);
-        full = bytes_are h ∙ (full ∙ sym (end_at place.0 ∙ ap end_of_task there));
-      }
-    where
-      same : (a b : ℕ) → (a == b) ≡ true → a ≡ b
-      same a b e = grind (arith, nat_tests)
+    pub passes_complete : (h : ℕ) → is_complete (members tasks h) ≡ true → IsComplete w h
+    passes_complete h e =
+        let found = m.complete (members tasks h) e in
+        let place = m.only tasks h found.0 found.1 in
+        let there = get_or_from_slice_get tasks place.0 found.0 no_task place.1 in
+        record {
+          ender = place.0;
+          member = is_member_of h place.0 (slice_get_within tasks place.0 found.0 place.1) (ap (λ (s : Task). s.group) there ∙ place.2);
+          last = last_at place.0 ∙ (ap (λ (s : Task). s.last) there ∙ found.2);
+          full = bytes_are h ∙ (found.3 ∙ sym (end_at place.0 ∙ ap end_of_task there));
+        }
 
-  -- ---- the incomplete groups
+    -- ---- the incomplete groups
 
-  pub incomplete_iff : (h : ℕ) → IsIncomplete w h ↔ ((h < length groups) × (is_complete (members tasks h) ≡ false))
-  incomplete_iff h = (
-    (λ n. (
-      let l = n.below in let a = groups_are in omega arith,
-      ⊎_elim (λ e. absurd (n.lacking (passes_complete h e))) (λ e. e) (cases_Bool (is_complete (members tasks h))),
-    )),
-    (λ n. record { below = (let l = n.0 in let a = groups_are in omega arith); lacking = λ c. true≢false (sym (complete_passes h c) ∙ n.1) }),
-  )
+    pub incomplete_iff : (h : ℕ) → IsIncomplete w h ↔ ((h < length groups) × (is_complete (members tasks h) ≡ false))
+    incomplete_iff h = (
+      (λ n. (
+        let l = n.below in let a = groups_are in omega arith,
+        ⊎_elim (λ e. absurd (n.lacking (passes_complete h e))) (λ e. e) (cases_Bool (is_complete (members tasks h))),
+      )),
+      (λ n. record { below = (let l = n.0 in let a = groups_are in omega arith); lacking = λ c. true≢false (sym (complete_passes h c) ∙ n.1) }),
+    )
 
-  pub incomplete_counted : (hs : List ℕ) → ((h : ℕ) → IsIncomplete w h → times h hs ≡ 1) → ((h : ℕ) → 0 < times h hs → IsIncomplete w h) → length hs ≡ incomplete tasks groups
-  incomplete_counted hs each only =
-      sym (total_times hs (length groups) (λ h l. ((incomplete_iff h).0 (only h l)).0))
-      ∙ (total_same (λ h. times h hs) (λ h. one_if (not (is_complete (members tasks (0 + h))))) (length groups) (λ h l. same h l (is_complete (members tasks h)) refl)
-      ∙ sym (count_range (λ number. not (is_complete (members tasks number))) 0 (length groups)))
-    where
-      here : (h : ℕ) (b : Bool) → is_complete (members tasks h) ≡ b → one_if (not (is_complete (members tasks (0 + h)))) ≡ one_if (not b)
-      here h b e = let z : 0 + h ≡ h = omega arith in ap (λ n. one_if (not (is_complete (members tasks n)))) z ∙ ap (λ (c : Bool). one_if (not c)) e
+    pub incomplete_counted : (hs : List ℕ) → ((h : ℕ) → IsIncomplete w h → times h hs ≡ 1) → ((h : ℕ) → 0 < times h hs → IsIncomplete w h) → length hs ≡ incomplete tasks groups
+    incomplete_counted hs each only =
+        sym (total_times hs (length groups) (λ h l. ((incomplete_iff h).0 (only h l)).0))
+        ∙ (total_same (λ h. times h hs) (λ h. one_if (not (is_complete (members tasks (0 + h))))) (length groups) (λ h l. same h l (is_complete (members tasks h)) refl)
+        ∙ sym (count_range (λ number. not (is_complete (members tasks number))) 0 (length groups)))
+      where
+        here : (h : ℕ) (b : Bool) → is_complete (members tasks h) ≡ b → one_if (not (is_complete (members tasks (0 + h)))) ≡ one_if (not b)
+        here h b e = let z : 0 + h ≡ h = omega arith in ap (λ n. one_if (not (is_complete (members tasks n)))) z ∙ ap (λ (c : Bool). one_if (not c)) e
 
-      same : (h : ℕ) → h < length groups → (b : Bool) → is_complete (members tasks h) ≡ b → times h hs ≡ one_if (not (is_complete (members tasks (0 + h))))
-      same h l true e = zero_or (times h hs) (λ m. (only h m).lacking (passes_complete h e)) ∙ sym (here h true e)
-      same h l false e = each h ((incomplete_iff h).1 (l, e)) ∙ sym (here h false e)
+        same : (h : ℕ) → h < length groups → (b : Bool) → is_complete (members tasks h) ≡ b → times h hs ≡ one_if (not (is_complete (members tasks (0 + h))))
+        same h l true e = zero_or (times h hs) (λ m. (only h m).lacking (passes_complete h e)) ∙ sym (here h true e)
+        same h l false e = each h ((incomplete_iff h).1 (l, e)) ∙ sym (here h false e)

@@ -19,7 +19,7 @@ use Rattle.run_stages.specs.FromCapture.{work_of}
 use Rattle.run_stages.specs.Stages.{IsLawful}
 use Rattle.run_stages.proofs.Counting.{times_cons_same, times_cons_other}
 use Rattle.run_stages.proofs.Finishing.{incomplete_alone}
-use Rattle.run_stages.proofs.FromTasks.{incomplete_counted}
+use Rattle.run_stages.proofs.FromTasks.{MembersAre, incomplete_counted}
 
 abbrev keys_in : List (ℕ × ℕ) → List ℕ
 keys_in [] = []
@@ -61,11 +61,11 @@ unfolding state_of
 word_of layout contents h = refl
 
 module _ (rules : List Rule) (bytes : List ℕ) (tasks : List Task) (groups : List Group) (p : IsSoundWork (work_of rules bytes tasks groups)) (layout : Layout) (contents : StoreState)
-    (o : OrderedBy (λ p q. p.0 < q.0) (get_or contents.maps 0 [])) (l : IsLawful (work_of rules bytes tasks groups) (state_of layout contents)) (f : IsFinished (work_of rules bytes tasks groups) (state_of layout contents)) where
+    (o : OrderedBy (λ p q. p.0 < q.0) (get_or contents.maps 0 [])) (l : IsLawful (work_of rules bytes tasks groups) (state_of layout contents)) (f : IsFinished (work_of rules bytes tasks groups) (state_of layout contents)) (m : MembersAre) where
   pub keys_incomplete : length (get_or contents.maps 0 []) ≡ incomplete tasks groups
   keys_incomplete =
       let ps : List (ℕ × ℕ) = get_or contents.maps 0 [] in
       let alone = incomplete_alone (work_of rules bytes tasks groups) (state_of layout contents) l f p in
-      sym (as_many ps) ∙ incomplete_counted rules bytes tasks groups (keys_in ps)
+      sym (as_many ps) ∙ incomplete_counted rules bytes tasks groups m (keys_in ps)
       (λ h n. let v = some_value ((state_of layout contents).maps 0 h) (alone.1 h n) in once h v.0 ps o (sym (word_of layout contents h) ∙ v.1))
-      (λ h m. let v = has_value h ps m in alone.0 h v.0 (word_of layout contents h ∙ v.1))
+      (λ h at. let v = has_value h ps at in alone.0 h v.0 (word_of layout contents h ∙ v.1))

@@ -60,8 +60,8 @@ TasksHaveFacts = (rules : List Rule) (bytes : List ℕ) (tasks : List Task) (gro
 
 -- the work of a capture's plan is sound
 abbrev pub PlansAreWork : Type 0
-PlansAreWork = (rules : List Rule) (bytes : List ℕ) (capture : Capture) (planned : Plan)
-    → IsClassifiable bytes capture → IsPlan bytes capture planned → IsSoundWork (work_of_plan rules bytes planned)
+PlansAreWork = (rules : List Rule) (bytes : List ℕ) (capture : Capture) (window : ℕ) (planned : Plan)
+    → IsClassifiable bytes capture → IsPlan bytes capture window planned → IsSoundWork (work_of_plan rules bytes planned)
 
 -- the task of a whole datagram is asked for by its number, and has the values of the findings in the datagram
 abbrev pub WholeIsDatagram : Type 0
@@ -99,18 +99,18 @@ ValuesAreFindings = (rules : List Rule) (bytes : List ℕ) (tasks : List Task) (
 -- so the log of a finished lawful state of a capture's work has exactly the findings of the rules in the capture, in
 -- some order
 abbrev pub FinishedFindsCapture : Type 0
-FinishedFindsCapture = (rules : List Rule) (bytes : List ℕ) (capture : Capture) (planned : Plan) → IsPlan bytes capture planned
+FinishedFindsCapture = (rules : List Rule) (bytes : List ℕ) (capture : Capture) (window : ℕ) (planned : Plan) → IsPlan bytes capture window planned
     → (s : State) → IsLawful (work_of_plan rules bytes planned) s → IsFinished (work_of_plan rules bytes planned) s
-    → IsPermutation (findings_of_capture rules bytes (contents_of capture)) (s.logs 0).items
+    → IsPermutation (findings_of_capture rules bytes window (contents_of capture)) (s.logs 0).items
 
 -- the log of a lawful state never has more values than there are findings in the capture, and has room among these for
 -- those of the queue's first item
 abbrev pub LogIsPartOfFindings : Type 0
-LogIsPartOfFindings = (rules : List Rule) (bytes : List ℕ) (capture : Capture) (planned : Plan) → IsPlan bytes capture planned
+LogIsPartOfFindings = (rules : List Rule) (bytes : List ℕ) (capture : Capture) (window : ℕ) (planned : Plan) → IsPlan bytes capture window planned
     → (s : State) → IsLawful (work_of_plan rules bytes planned) s
-    → (length (s.logs 0).items ≤ length (findings_of_capture rules bytes (contents_of capture)))
+    → (length (s.logs 0).items ≤ length (findings_of_capture rules bytes window (contents_of capture)))
     × ((x : ℕ) → Value x ≡ first (s.queues 0).items
-    → length (s.logs 0).items + length (item_values (work_of_plan rules bytes planned) x) ≤ length (findings_of_capture rules bytes (contents_of capture)))
+    → length (s.logs 0).items + length (item_values (work_of_plan rules bytes planned) x) ≤ length (findings_of_capture rules bytes window (contents_of capture)))
 
 -- the incomplete groups of the work are those that are counted: any list in which each stands once is as long
 abbrev pub IncompleteAreCounted : Type 0
@@ -123,8 +123,8 @@ IncompleteAreCounted = (rules : List Rule) (bytes : List ℕ) (tasks : List Task
 
 -- so map 0 of a finished lawful state has a word for as many groups as are incomplete, and for none that isn't there
 abbrev pub FinishedCountsIncomplete : Type 0
-FinishedCountsIncomplete = (rules : List Rule) (bytes : List ℕ) (capture : Capture) (planned : Plan)
-    → IsClassifiable bytes capture → IsPlan bytes capture planned
+FinishedCountsIncomplete = (rules : List Rule) (bytes : List ℕ) (capture : Capture) (window : ℕ) (planned : Plan)
+    → IsClassifiable bytes capture → IsPlan bytes capture window planned
     → (s : State) → IsLawful (work_of_plan rules bytes planned) s → IsFinished (work_of_plan rules bytes planned) s
     → ((h : ℕ) → IsSome (s.maps 0 h) → h < length planned.groups.items)
     × (count_by (λ h. is_some (s.maps 0 h)) (range_with_len 0 (length planned.groups.items))
@@ -132,25 +132,25 @@ FinishedCountsIncomplete = (rules : List Rule) (bytes : List ℕ) (capture : Cap
 
 -- where an allowed record doesn't fit, the findings in the capture are more than the log may have
 abbrev pub FullLogMeansMore : Type 0
-FullLogMeansMore = (rules : List Rule) (bytes : List ℕ) (capture : Capture) (planned : Plan)
-    → IsClassifiable bytes capture → IsPlan bytes capture planned
+FullLogMeansMore = (rules : List Rule) (bytes : List ℕ) (capture : Capture) (window : ℕ) (planned : Plan)
+    → IsClassifiable bytes capture → IsPlan bytes capture window planned
     → (s t : State) → IsLawful (work_of_plan rules bytes planned) s
     → (ds : List Done) → IsAllowed (work_of_plan rules bytes planned) ds → Runs s ds t
     → (values adding : ℕ) → EndsAs 1 t (Full 1 values adding)
-    → (t.logs 0).capacity < length (findings_of_capture rules bytes (contents_of capture))
+    → (t.logs 0).capacity < length (findings_of_capture rules bytes window (contents_of capture))
 
 -- and the other way round: where a run was finished, they are no more than the log may have
 abbrev pub FindingsFitLog : Type 0
-FindingsFitLog = (rules : List Rule) (bytes : List ℕ) (capture : Capture) (planned : Plan)
-    → IsClassifiable bytes capture → IsPlan bytes capture planned
+FindingsFitLog = (rules : List Rule) (bytes : List ℕ) (capture : Capture) (window : ℕ) (planned : Plan)
+    → IsClassifiable bytes capture → IsPlan bytes capture window planned
     → (findings : ℕ) (records : List (Entry Done)) (end : State)
     → IsRunOfWork (work_of_plan rules bytes planned) findings records end → IsFinished (work_of_plan rules bytes planned) end
-    → length (findings_of_capture rules bytes (contents_of capture)) ≤ findings
+    → length (findings_of_capture rules bytes window (contents_of capture)) ≤ findings
 
 -- in contents with ascending keys that stand for a finished lawful state, map 0 has as many keys as groups are incomplete
 abbrev pub KeysAreIncomplete : Type 0
-KeysAreIncomplete = (rules : List Rule) (bytes : List ℕ) (capture : Capture) (planned : Plan)
-    → IsClassifiable bytes capture → IsPlan bytes capture planned
+KeysAreIncomplete = (rules : List Rule) (bytes : List ℕ) (capture : Capture) (window : ℕ) (planned : Plan)
+    → IsClassifiable bytes capture → IsPlan bytes capture window planned
     → (layout : Layout) (contents : StoreState) → OrderedBy (λ p q. p.0 < q.0) (get_or contents.maps 0 [])
     → IsLawful (work_of_plan rules bytes planned) (state_of layout contents)
     → IsFinished (work_of_plan rules bytes planned) (state_of layout contents)

@@ -3,7 +3,7 @@
 ghost use Rattle.run_stages.specs.FromCapture.{TasksHaveFacts, PlansAreWork, WholeIsDatagram, GroupIsDatagram, DatagramsAreListed, ValuesAreFindings, FinishedFindsCapture, LogIsPartOfFindings, IncompleteAreCounted, FinishedCountsIncomplete, FullLogMeansMore, FindingsFitLog, KeysAreIncomplete};
 
 use crate::laws::{finished_fits_log_law, full_is_the_log_law, log_is_part_of_all_law};
-use capture_terms::{group_law, task_law};
+use capture_terms::{group_law, member_law, task_law};
 
 /// What a run has of each task is what the task has.
 pub fn tasks_have_facts_law()
@@ -26,17 +26,23 @@ pub fn whole_is_datagram_law()
 /// group has the values of the findings in it.
 pub fn group_is_datagram_law()
     ensures { GroupIsDatagram }
-{}
+{
+    member_law();
+}
 
 /// Some list has all datagrams of a run, and their values are the findings in order.
 pub fn datagrams_are_listed_law()
     ensures { DatagramsAreListed }
-{}
+{
+    member_law();
+}
 
 /// The values of all datagrams of a run are the findings in the datagrams of the tasks, in some order.
 pub fn values_are_findings_law()
     ensures { ValuesAreFindings }
-{}
+{
+    member_law();
+}
 
 /// So the log of a finished lawful state has exactly the findings of the rules in the capture, in some
 /// order.
@@ -44,6 +50,7 @@ pub fn finished_finds_capture_law()
     ensures { FinishedFindsCapture }
 {
     task_law();
+    member_law();
 }
 
 /// The log of a lawful state never has more values than there are findings in the capture, and has room
@@ -53,12 +60,15 @@ pub fn log_is_part_of_findings_law()
 {
     log_is_part_of_all_law();
     task_law();
+    member_law();
 }
 
 /// The incomplete groups of a run are those that are counted of a plan.
 pub fn incomplete_are_counted_law()
     ensures { IncompleteAreCounted }
-{}
+{
+    member_law();
+}
 
 /// So map 0 of a finished lawful state has a word for as many groups as are counted, and for none that
 /// isn't there.
@@ -66,6 +76,7 @@ pub fn finished_counts_incomplete_law()
     ensures { FinishedCountsIncomplete }
 {
     group_law();
+    member_law();
 }
 
 /// Where an allowed record does not fit, the findings in the capture are more than the log may have.
@@ -75,6 +86,7 @@ pub fn full_log_means_more_law()
     plans_are_work_law();
     full_is_the_log_law();
     task_law();
+    member_law();
 }
 
 /// Where a run was finished, the findings in the capture are no more than the log may have.
@@ -84,6 +96,7 @@ pub fn findings_fit_log_law()
     plans_are_work_law();
     finished_fits_log_law();
     task_law();
+    member_law();
 }
 
 /// In contents that stand for a finished lawful state map 0 has as many keys as groups are incomplete.
@@ -91,4 +104,5 @@ pub fn keys_are_incomplete_law()
     ensures { KeysAreIncomplete }
 {
     plans_are_work_law();
+    member_law();
 }

@@ -8,10 +8,10 @@ use Rattle.run_stages.proofs.FromCapture.{items, all_items, items_values}
 use Rattle.run_stages.proofs.from_capture.full_log_means_more_law.Goals as goal
 
 pub returns : goal.returns
-returns c = λ rules bytes capture planned fine is s t lawful ds allowed runs values adding full.
+returns c = λ rules bytes capture window planned fine is s t lawful ds allowed runs values adding full.
     let all : List ℕ = items rules bytes planned.tasks.items planned.groups.items in
-    let every = all_items rules bytes planned.tasks.items planned.groups.items (c.task_law.ensures.ascending bytes capture planned is) in
-    let same : values_of (work_of_plan rules bytes planned) all ≡ findings_of_capture rules bytes (contents_of capture) =
+    let every = all_items rules bytes planned.tasks.items planned.groups.items (record { named = c.member_law.ensures.named; each = c.member_law.ensures.each; only = c.member_law.ensures.only; complete = c.member_law.ensures.complete }) (c.task_law.ensures.ascending bytes capture window planned is) in
+    let same : values_of (work_of_plan rules bytes planned) all ≡ findings_of_capture rules bytes window (contents_of capture) =
     items_values rules bytes planned.tasks.items planned.groups.items ∙ ap (λ (tasks : List Task). all_findings rules bytes tasks) is.tasks in
-    let sound = c.plans_are_work_law.ensures rules bytes capture planned fine is in
+    let sound = c.plans_are_work_law.ensures rules bytes capture window planned fine is in
     subst (λ (found : List ℕ). (t.logs 0).capacity < length found) same ((c.full_is_the_log_law.ensures (work_of_plan rules bytes planned) sound s t lawful ds allowed runs values adding).1 all every full)

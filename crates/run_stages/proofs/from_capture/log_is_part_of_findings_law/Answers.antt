@@ -8,12 +8,12 @@ use Rattle.run_stages.proofs.FromCapture.{items, all_items, items_values}
 use Rattle.run_stages.proofs.from_capture.log_is_part_of_findings_law.Goals as goal
 
 pub returns : goal.returns
-returns c = λ rules bytes capture planned is s lawful.
+returns c = λ rules bytes capture window planned is s lawful.
     let all : List ℕ = items rules bytes planned.tasks.items planned.groups.items in
-    let ascend = c.task_law.ensures.ascending bytes capture planned is in
-    let same : values_of (work_of_plan rules bytes planned) all ≡ findings_of_capture rules bytes (contents_of capture) =
+    let ascend = c.task_law.ensures.ascending bytes capture window planned is in
+    let same : values_of (work_of_plan rules bytes planned) all ≡ findings_of_capture rules bytes window (contents_of capture) =
     items_values rules bytes planned.tasks.items planned.groups.items ∙ ap (λ (tasks : List Task). all_findings rules bytes tasks) is.tasks in
-    let part = c.log_is_part_of_all_law.ensures (work_of_plan rules bytes planned) s lawful all (all_items rules bytes planned.tasks.items planned.groups.items ascend) in (
+    let part = c.log_is_part_of_all_law.ensures (work_of_plan rules bytes planned) s lawful all (all_items rules bytes planned.tasks.items planned.groups.items (record { named = c.member_law.ensures.named; each = c.member_law.ensures.each; only = c.member_law.ensures.only; complete = c.member_law.ensures.complete }) ascend) in (
       subst (λ (found : List ℕ). length (s.logs 0).items ≤ length found) same part.0,
       λ x e. subst (λ (found : List ℕ). length (s.logs 0).items + length (item_values (work_of_plan rules bytes planned) x) ≤ length found) same (part.1 x e),
     )
