@@ -20,7 +20,7 @@ one_capture_file law name bytes one two (inr p) (inl q) = absurd (omega (arith, 
 one_capture_file law name bytes one two (inr p) (inr q) = p.2 ∙ ap file_of (law bytes p.0 q.0 p.1.right q.1.right) ∙ sym q.2
 
 pub verdict_is_one : TextHasOneReading → AnswerIsOne → VerdictIsOne
-verdict_is_one rules_law answer_law names most text bytes one two p q =
+verdict_is_one rules_law answer_law names settings text bytes one two p q =
     let rules = rule_file_is_one rules_law names.rules text p.rules q.rules p.rules_is q.rules_is in
     let capture = one_capture_file answer_law names.capture bytes p.capture q.capture p.capture_is q.capture_is in
-    p.comes_to ∙ ap (λ (r : RuleFile). verdict_of most r bytes p.capture) rules ∙ ap (λ (c : CaptureFile). verdict_of most q.rules bytes c) capture ∙ sym q.comes_to
+    p.comes_to ∙ ap (λ (r : RuleFile). verdict_of settings r bytes p.capture) rules ∙ ap (λ (c : CaptureFile). verdict_of settings q.rules bytes c) capture ∙ sym q.comes_to

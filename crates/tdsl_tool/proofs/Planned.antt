@@ -1,10 +1,10 @@
 -- What a plan has: a task for a frame at most, a group for a task at most, and each task's group.
 use Rattle.std.proofs.Common.{◌≡◌, ℕ, zero, suc, ◌+◌, ◌<◌, ◌≤◌, ◌^◌, Bool, true, false, List, [], ◌∷◌, ◌++◌, Option, None, Some, refl, ap, subst, arith, length, get_or, length-append}
-use Rattle.std.specs.Prelude.{All, IfSome, option_to_list, position, fold, if◌then◌else◌}
+use Rattle.std.specs.Prelude.{◌*◌, map, All, IfSome, option_to_list, position, fold, if◌then◌else◌}
 use Rattle.std.specs.List.{list_any}
 use Rattle.std.proofs.lemmas.List.{length-map}
 use Rattle.std.proofs.lemmas.List.Quantifiers.{position-Some}
-use Rattle.capture_terms.specs.Capture.{contents_of, link_numbered}
+use Rattle.capture_terms.specs.Capture.{contents_of}
 use Rattle.capture_terms.specs.declared.capture.Capture.{Capture}
 use Rattle.capture_terms.specs.declared.datagram.Class.{Class}
 use Rattle.capture_terms.specs.declared.datagram.Class.TheVariants as class
@@ -14,9 +14,9 @@ use Rattle.capture_terms.specs.declared.datagram.Piece.{Piece}
 use Rattle.capture_terms.specs.declared.plan.Group.{Group}
 use Rattle.capture_terms.specs.declared.plan.Plan.{Plan}
 use Rattle.capture_terms.specs.declared.plan.Task.{Task}
-use Rattle.capture_terms.specs.Classes.{kind_of}
+use Rattle.capture_terms.specs.Generations.{Timed, kinds_behind, in_generations}
 use Rattle.capture_terms.specs.Kept.{group_of, is_same_group, kept_piece, kept_among, kept_of, classes_of}
-use Rattle.capture_terms.specs.Plan.{group_number, with_group_of, groups_of, task_of, task_at, tasks_from, tasks_of, kinds_of, IsClassifiable, IsPlan}
+use Rattle.capture_terms.specs.Plan.{group_number, with_group_of, groups_of, task_of, task_at, tasks_from, tasks_of, timed, kinds_of, IsClassifiable, IsPlan}
 use Rattle.tdsl_tool.specs.Members.{IsGrouped}
 
 -- an element before a list, if there is one
@@ -98,23 +98,30 @@ grouped_of : (kinds : List Kind) → All (IsGrouped (length (groups_of kinds))) 
 unfolding tasks_of
 grouped_of kinds = tasks_grouped (groups_of kinds) 0 (classes_of kinds) kinds
 
-frames_few : (bytes : List ℕ) (capture : Capture) → IsClassifiable bytes capture → length (kinds_of bytes (contents_of capture)) ≤ 262144
-frames_few bytes capture classifiable = omega (arith, length-map capture.frames.items (kind_of (link_numbered capture.link) bytes), classifiable.few)
+behind_long : (window : ℕ) (before frames : List Timed) → length (kinds_behind window before frames) ≡ length frames
+behind_long window before [] = refl
+behind_long window before (frame ∷ frames) = let rest = behind_long window (before ++ frame ∷ []) frames in omega (arith, rest)
 
-module _ (bytes : List ℕ) (capture : Capture) (plan : Plan) (classifiable : IsClassifiable bytes capture) (is : IsPlan bytes capture plan) where
+frames_few : (bytes : List ℕ) (capture : Capture) (window : ℕ) → IsClassifiable bytes capture → length (kinds_of bytes window (contents_of capture)) ≤ 262144
+unfolding in_generations
+frames_few bytes capture window classifiable =
+    let frames = map (timed bytes (contents_of capture)) capture.frames.items in
+    omega (arith, behind_long (window * 1000000000) [] frames, length-map capture.frames.items (timed bytes (contents_of capture)), classifiable.few)
+
+module _ (bytes : List ℕ) (capture : Capture) (window : ℕ) (plan : Plan) (classifiable : IsClassifiable bytes capture) (is : IsPlan bytes capture window plan) where
   pub few_tasks : length plan.tasks.items < 2 ^ 32
   few_tasks =
-      let few = few_tasks_of (kinds_of bytes (contents_of capture)) in
+      let few = few_tasks_of (kinds_of bytes window (contents_of capture)) in
       let same = ap (length {A = Task}) is.tasks in
-      omega (arith, frames_few bytes capture classifiable, few, same)
+      omega (arith, frames_few bytes capture window classifiable, few, same)
 
   pub few_groups : length plan.groups.items < 2 ^ 32
   few_groups =
-      let few = few_groups_of (kinds_of bytes (contents_of capture)) in
+      let few = few_groups_of (kinds_of bytes window (contents_of capture)) in
       let same = ap (length {A = Group}) is.groups in
-      omega (arith, frames_few bytes capture classifiable, few, same)
+      omega (arith, frames_few bytes capture window classifiable, few, same)
 
   pub grouped : All (IsGrouped (length plan.groups.items)) plan.tasks.items
   grouped =
-      let same : (groups_of (kinds_of bytes (contents_of capture)), tasks_of (kinds_of bytes (contents_of capture))) ≡ (plan.groups.items, plan.tasks.items) = cc in
-      subst (λ (both : List Group × List Task). All (IsGrouped (length both.0)) both.1) same (grouped_of (kinds_of bytes (contents_of capture)))
+      let same : (groups_of (kinds_of bytes window (contents_of capture)), tasks_of (kinds_of bytes window (contents_of capture))) ≡ (plan.groups.items, plan.tasks.items) = cc in
+      subst (λ (both : List Group × List Task). All (IsGrouped (length both.0)) both.1) same (grouped_of (kinds_of bytes window (contents_of capture)))

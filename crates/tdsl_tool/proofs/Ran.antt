@@ -6,6 +6,7 @@ use Rattle.capture_terms.specs.Capture.{Answer, IsAnswer}
 use Rattle.rule_terms.specs.Rule.{Rule}
 use Rattle.rule_terms.specs.RuleText as rule_text
 use Rattle.command_words.specs.Words.{Names, Asked, inspect, asked_by}
+use Rattle.command_words.specs.declared.command.Settings.{Settings}
 use Rattle.report.specs.Fault.{Cause, no_command, unread, unwritten, bad_line, bad_capture, long_file, many_frames, many_rules, many_findings, no_memory, status_of}
 use Rattle.tdsl_tool.specs.Verdict.{max_file, Verdict, reports, stops, RuleFile, rules_are, rules_refused, rule_file_of, HasBadLine, HasManyRules, IsRuleFile, RuleFileIsOne, CaptureFile, file_of, IsCaptureFile, IsVerdict, VerdictIsOne, verdict_status, verdict_of}
 use Rattle.tdsl_tool.specs.Run.{Reading, Writing, HasFailed, IsFaulty, Run, reading, EndsBy, Exactly, HasStatus, Decides, Inspected, Ran, IsOfRules, IfRulesTold, ComesTo, StopsAtRules, StopsAtCapture, StopsAt, IsReported, IsCutOff, Ending, finished, faulted, ending_status, EndsSo, Tells, TellsLine}
@@ -130,7 +131,7 @@ module _ (one : VerdictIsOne) (some : SomeAnswer) (of : Reading) (out : Writing)
     found_status ending status ends has =
         elim (verdict_found ending ends) [
           | inl other ↦ inl other
-          | inr found ↦ inr (sym found.1 ∙ ap verdict_status (one (record { rules = of.rules.name; capture = of.capture.name }) of.most text bytes found.0 has.0 found.2 has.2) ∙ has.1)
+          | inr found ↦ inr (sym found.1 ∙ ap verdict_status (one (record { rules = of.rules.name; capture = of.capture.name }) of.settings text bytes found.0 has.0 found.2 has.2) ∙ has.1)
         ]
 
     -- a status other than 0, 2, 3 and 7 comes exactly where the verdict has it
@@ -236,18 +237,18 @@ inspected one one_file some run of ending is ends tells = record {
 }
 
 -- a run whose words ask for an inspection
-pub ran_inspection : VerdictIsOne → RuleFileIsOne → SomeAnswer → (words : List (List ℕ)) (run : Run) (names : Names) (most : ℕ) (ending : Ending) → asked_by words ≡ inspect names most → run.status ≡ ending_status ending → EndsSo (reading run.content run.before run.after names most) run.out ending → Tells run.faults ending → Ran words run
-ran_inspection one one_file some words run names most ending asked is ends tells =
-    let here = reading run.content run.before run.after names most in
+pub ran_inspection : VerdictIsOne → RuleFileIsOne → SomeAnswer → (words : List (List ℕ)) (run : Run) (names : Names) (settings : Settings) (ending : Ending) → asked_by words ≡ inspect names settings → run.status ≡ ending_status ending → EndsSo (reading run.content run.before run.after names settings) run.out ending → Tells run.faults ending → Ran words run
+ran_inspection one one_file some words run names settings ending asked is ends tells =
+    let here = reading run.content run.before run.after names settings in
     let not_one : run.status ≢ 1 = λ status. not_usage here run.out ending ends (sym is ∙ status) in
     record {
       usage = (λ status. absurd (not_one status), λ none. cc);
       usage_line = λ status. absurd (not_one status);
       inspection = λ others limit are.
-          let same : inspect names most ≡ inspect others limit = sym asked ∙ are in
+          let same : inspect names settings ≡ inspect others limit = sym asked ∙ are in
           let names_same : names ≡ others = cc in
-          let most_same : most ≡ limit = cc in
+          let settings_same : settings ≡ limit = cc in
           subst (λ (n : Names). Inspected run (reading run.content run.before run.after n limit)) names_same
-          (subst (λ (m : ℕ). Inspected run (reading run.content run.before run.after names m)) most_same
+          (subst (λ (m : Settings). Inspected run (reading run.content run.before run.after names m)) settings_same
           (inspected one one_file some run here ending is ends tells));
     }

@@ -6,12 +6,13 @@ use Rattle.capture_terms.specs.Capture.{Answer, captured, IsAnswer}
 use Rattle.rule_terms.specs.Rule.{Rule}
 use Rattle.rule_terms.specs.RuleText as rule_text
 use Rattle.report.specs.Fault.{Cause, no_command, unread, unwritten, bad_line, bad_capture, long_file, many_frames, many_rules, many_findings, no_memory}
+use Rattle.command_words.specs.declared.command.Settings.{Settings}
 use Rattle.tdsl_tool.specs.Verdict.{max_file, Verdict, stops, IsVerdictUnder, rules_are, AreRules, CaptureFile, capture_is, capture_refused, file_of}
 use Rattle.tdsl_tool.specs.Run.{Source, HasFailed, Reading, IfRulesTold, ComesTo, StopsReading, StopsAtRules, StopsAtCapture, StopsUnder}
 
 -- a capture file whose answer is a refusal comes to it
-pub refused_under : (most : ℕ) (rules : List Rule) (name bytes : List ℕ) (told : Option Answer) (answer : Answer) (cause : Cause) → told ≡ Some answer → file_of answer ≡ capture_refused cause → length bytes ≤ max_file → IfSome told (IsAnswer bytes) → IsVerdictUnder most rules name bytes (stops cause)
-refused_under most rules name bytes told answer cause same is short right = record {
+pub refused_under : (settings : Settings) (rules : List Rule) (name bytes : List ℕ) (told : Option Answer) (answer : Answer) (cause : Cause) → told ≡ Some answer → file_of answer ≡ capture_refused cause → length bytes ≤ max_file → IfSome told (IsAnswer bytes) → IsVerdictUnder settings rules name bytes (stops cause)
+refused_under settings rules name bytes told answer cause same is short right = record {
   capture = capture_refused cause;
   capture_is = inr (answer, record { short = short; right = subst (λ (o : Option Answer). IfSome o (IsAnswer bytes)) same right }, sym is);
   comes_to = refl;
@@ -25,7 +26,7 @@ stops_at_rules file cause why = why
 
 module _ (of : Reading) (rules : List Rule) (are : IfRulesTold of (λ text. AreRules text rules)) where
   -- what rules and the capture file come to is what the two files come to
-  pub comes_to : (verdict : Verdict) → ((bytes : List ℕ) → of.capture.told ≡ Some bytes → IsVerdictUnder of.most rules of.capture.name bytes verdict) → ComesTo of verdict
+  pub comes_to : (verdict : Verdict) → ((bytes : List ℕ) → of.capture.told ≡ Some bytes → IsVerdictUnder of.settings rules of.capture.name bytes verdict) → ComesTo of verdict
   comes_to verdict under = record {
     rules = λ text told. (rules, are text told);
     verdict_is = λ text told bytes told'.
@@ -56,11 +57,11 @@ module _ (of : Reading) (rules : List Rule) (are : IfRulesTold of (λ text. AreR
 
   module _ (bytes : List ℕ) (whole : IfTold of.capture.told (λ told. bytes ≡ told)) where
     -- of bytes that are those of the file
-    pub comes_to_of : (verdict : Verdict) → IsVerdictUnder of.most rules of.capture.name bytes verdict → ComesTo of verdict
-    comes_to_of verdict under = comes_to verdict (λ told is. subst (λ (b : List ℕ). IsVerdictUnder of.most rules of.capture.name b verdict) (whole told is) under)
+    pub comes_to_of : (verdict : Verdict) → IsVerdictUnder of.settings rules of.capture.name bytes verdict → ComesTo of verdict
+    comes_to_of verdict under = comes_to verdict (λ told is. subst (λ (b : List ℕ). IsVerdictUnder of.settings rules of.capture.name b verdict) (whole told is) under)
 
     -- an inspection that stops is a run that stops
-    pub stops_at : (cause : Cause) → StopsUnder of.most rules of.capture.name bytes cause → StopsAtCapture of cause
+    pub stops_at : (cause : Cause) → StopsUnder of.settings rules of.capture.name bytes cause → StopsAtCapture of cause
     stops_at (bad_capture fault) why = comes_to_of _ why
     stops_at many_frames why = comes_to_of _ why
     stops_at many_findings why = comes_to_of _ why

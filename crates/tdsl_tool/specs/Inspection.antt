@@ -8,10 +8,10 @@ use Rattle.rule_terms.specs.Rule.{Rule}
 use Rattle.inspection_terms.specs.Findings.{findings_of_capture}
 use Rattle.report.specs.Report.{report_lines, text_of}
 
--- the report of a capture under rules, from the capture's bytes to the text
-unfoldable pub report_of : List Rule → List ℕ → Contents → List ℕ
-report_of rules bytes contents =
-    let kinds = kinds_of bytes contents in
+-- the report of a capture under rules, from the capture's bytes to the text, with a window of so many seconds
+unfoldable pub report_of : List Rule → List ℕ → ℕ → Contents → List ℕ
+report_of rules bytes window contents =
+    let kinds = kinds_of bytes window contents in
     let groups = groups_of kinds in
     let open_groups = incomplete (tasks_of kinds) groups in
-    text_of (report_lines contents (classes_of kinds) groups rules open_groups (findings_of_capture rules bytes contents))
+    text_of (report_lines contents (classes_of kinds) groups rules open_groups (findings_of_capture rules bytes window contents))

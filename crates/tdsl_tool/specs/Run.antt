@@ -3,6 +3,7 @@ use Rattle.std.specs.Prelude.{◌≡◌, ◌≢◌, ◌⊎◌, ◌↔◌, ℕ, �
 use Rattle.byte_ends.specs.Told.{Rose, IfTold, Grows, GrowsByPrefix}
 use Rattle.rule_terms.specs.Rule.{Rule}
 use Rattle.command_words.specs.Words.{Names, unknown, inspect, asked_by}
+use Rattle.command_words.specs.declared.command.Settings.{Settings}
 use Rattle.report.specs.declared.fault.Fault.{Fault}
 use Rattle.report.specs.Fault.{Cause, no_command, unread, unwritten, bad_line, bad_capture, long_file, many_frames, many_rules, many_findings, no_memory, cause_of, status_of, line_of}
 use Rattle.tdsl_tool.specs.Verdict.{Verdict, reports, stops, IsVerdict, IsVerdictUnder, max_file, AreRules, HasBadLine, HasManyRules, rules_refused, IsRuleFile, verdict_status}
@@ -25,17 +26,17 @@ source content before after name = record { name = name; told = content name; be
 abbrev pub HasFailed : Source → Type 0
 HasFailed file = Rose file.before file.after
 
--- an inspection: its two files, and the most findings that it may have
+-- an inspection: its two files and its settings
 pub record Reading : Type 0 where
   pub rules : Source
   pub capture : Source
-  pub most : ℕ
+  pub settings : Settings
 
-abbrev pub reading : (List ℕ → Option (List ℕ)) → (List ℕ → ℕ) → (List ℕ → ℕ) → Names → ℕ → Reading
-reading content before after names most = record {
+abbrev pub reading : (List ℕ → Option (List ℕ)) → (List ℕ → ℕ) → (List ℕ → ℕ) → Names → Settings → Reading
+reading content before after names settings = record {
   rules = source content before after names.rules;
   capture = source content before after names.capture;
-  most = most;
+  settings = settings;
 }
 
 -- a sink's bytes where these are told, and how often calls of it had failed, before and after
@@ -67,7 +68,7 @@ IsOfRules text = (rules : List Rule) × AreRules text rules
 
 -- files of these bytes come to this verdict
 abbrev pub Decides : Reading → List ℕ → List ℕ → Verdict → Type 0
-Decides of text bytes verdict = IsVerdict (record { rules = of.rules.name; capture = of.capture.name }) of.most text bytes verdict
+Decides of text bytes verdict = IsVerdict (record { rules = of.rules.name; capture = of.capture.name }) of.settings text bytes verdict
 
 -- the rules stand where they are told, and the two files come to this verdict where they are
 pub record ComesTo (of : Reading) (verdict : Verdict) : Type 0 where
@@ -94,12 +95,12 @@ StopsAtRules file many_rules = IfTold file.told HasManyRules
 StopsAtRules file cause = StopsReading file cause
 
 -- a capture file of these bytes that gives no report under rules
-abbrev pub StopsUnder : ℕ → List Rule → List ℕ → List ℕ → Cause → Type 0
-StopsUnder most rules name bytes (bad_capture fault) = IsVerdictUnder most rules name bytes (stops (bad_capture fault))
-StopsUnder most rules name bytes many_frames = IsVerdictUnder most rules name bytes (stops many_frames)
-StopsUnder most rules name bytes many_findings = IsVerdictUnder most rules name bytes (stops many_findings)
-StopsUnder most rules name bytes no_memory = Unit {0}
-StopsUnder most rules name bytes cause = ⊥
+abbrev pub StopsUnder : Settings → List Rule → List ℕ → List ℕ → Cause → Type 0
+StopsUnder settings rules name bytes (bad_capture fault) = IsVerdictUnder settings rules name bytes (stops (bad_capture fault))
+StopsUnder settings rules name bytes many_frames = IsVerdictUnder settings rules name bytes (stops many_frames)
+StopsUnder settings rules name bytes many_findings = IsVerdictUnder settings rules name bytes (stops many_findings)
+StopsUnder settings rules name bytes no_memory = Unit {0}
+StopsUnder settings rules name bytes cause = ⊥
 
 -- a capture file behind rules that stand
 abbrev pub StopsAtCapture : Reading → Cause → Type 0
@@ -200,4 +201,4 @@ pub record Ran (words : List (List ℕ)) (run : Run) : Type 0 where
   pub usage : (run.status ≡ 1) ↔ (asked_by words ≡ unknown)
   -- then the usage is told, and nothing is written
   pub usage_line : run.status ≡ 1 → TellsLine run.faults no_command × (run.out.after ≡ run.out.before)
-  pub inspection : (names : Names) (most : ℕ) → asked_by words ≡ inspect names most → Inspected run (reading run.content run.before run.after names most)
+  pub inspection : (names : Names) (settings : Settings) → asked_by words ≡ inspect names settings → Inspected run (reading run.content run.before run.after names settings)

@@ -5,6 +5,7 @@ use Rattle.rule_terms.specs.Rule.{Rule}
 use Rattle.rule_terms.specs.RuleText as rule_text
 use Rattle.inspection_terms.specs.Findings.{findings_of_capture}
 use Rattle.command_words.specs.Words.{Names}
+use Rattle.command_words.specs.declared.command.Settings.{Settings}
 use Rattle.report.specs.Fault.{Cause, bad_line, bad_capture, long_file, many_frames, many_rules, many_findings, status_of}
 use Rattle.tdsl_tool.specs.Inspection.{report_of}
 
@@ -82,35 +83,35 @@ abbrev pub verdict_status : Verdict → ℕ
 verdict_status (reports text) = 0
 verdict_status (stops cause) = status_of cause
 
--- of rules and a capture that says this, with at most so many findings
-unfoldable pub verdict_under : ℕ → List Rule → List ℕ → Contents → Verdict
-verdict_under most rules bytes contents =
-    if nat_lt most (length (findings_of_capture rules bytes contents))
+-- of rules and a capture that says this, with these settings
+unfoldable pub verdict_under : Settings → List Rule → List ℕ → Contents → Verdict
+verdict_under settings rules bytes contents =
+    if nat_lt settings.findings (length (findings_of_capture rules bytes settings.window contents))
     then stops many_findings
-    else reports (report_of rules bytes contents)
+    else reports (report_of rules bytes settings.window contents)
 
-abbrev pub verdict_at : ℕ → List Rule → List ℕ → CaptureFile → Verdict
-verdict_at most rules bytes (capture_is contents) = verdict_under most rules bytes contents
-verdict_at most rules bytes (capture_refused cause) = stops cause
+abbrev pub verdict_at : Settings → List Rule → List ℕ → CaptureFile → Verdict
+verdict_at settings rules bytes (capture_is contents) = verdict_under settings rules bytes contents
+verdict_at settings rules bytes (capture_refused cause) = stops cause
 
 -- the rules come first: a capture is looked at only where they stand
-abbrev pub verdict_of : ℕ → RuleFile → List ℕ → CaptureFile → Verdict
-verdict_of most (rules_refused cause) bytes file = stops cause
-verdict_of most (rules_are rules) bytes file = verdict_at most rules bytes file
+abbrev pub verdict_of : Settings → RuleFile → List ℕ → CaptureFile → Verdict
+verdict_of settings (rules_refused cause) bytes file = stops cause
+verdict_of settings (rules_are rules) bytes file = verdict_at settings rules bytes file
 
--- files of these names and bytes come to this, with at most so many findings
-pub record IsVerdict (names : Names) (most : ℕ) (text bytes : List ℕ) (verdict : Verdict) : Type 0 where
+-- files of these names and bytes come to this, with these settings
+pub record IsVerdict (names : Names) (settings : Settings) (text bytes : List ℕ) (verdict : Verdict) : Type 0 where
   pub rules : RuleFile
   pub capture : CaptureFile
   pub rules_is : IsRuleFile names.rules text rules
   pub capture_is : IsCaptureFile names.capture bytes capture
-  pub comes_to : verdict ≡ verdict_of most rules bytes capture
+  pub comes_to : verdict ≡ verdict_of settings rules bytes capture
 
 -- rules and a capture file of this name and these bytes come to this
-pub record IsVerdictUnder (most : ℕ) (rules : List Rule) (name bytes : List ℕ) (verdict : Verdict) : Type 0 where
+pub record IsVerdictUnder (settings : Settings) (rules : List Rule) (name bytes : List ℕ) (verdict : Verdict) : Type 0 where
   pub capture : CaptureFile
   pub capture_is : IsCaptureFile name bytes capture
-  pub comes_to : verdict ≡ verdict_at most rules bytes capture
+  pub comes_to : verdict ≡ verdict_at settings rules bytes capture
 
 -- a rule file is one thing only
 abbrev pub RuleFileIsOne : Type 0
@@ -119,5 +120,5 @@ RuleFileIsOne = (name text : List ℕ) (one two : RuleFile) → IsRuleFile name 
 -- two files come to one verdict only
 abbrev pub VerdictIsOne : Type 0
 VerdictIsOne =
-    (names : Names) (most : ℕ) (text bytes : List ℕ) (one two : Verdict)
-    → IsVerdict names most text bytes one → IsVerdict names most text bytes two → one ≡ two
+    (names : Names) (settings : Settings) (text bytes : List ℕ) (one two : Verdict)
+    → IsVerdict names settings text bytes one → IsVerdict names settings text bytes two → one ≡ two

@@ -2,8 +2,7 @@
 ghost use Rattle.std.specs.Prelude.{◌≡◌, ℕ, ◌^◌, ◌<◌, ◌≤◌, ◌++◌, [], length, map, true, All, Contains, OnOk, IfOk, IsErrOf};
 ghost use Rattle.std.specs.Option.{option_map_or};
 ghost use Rattle.capture_terms.specs.Datagram.{datagram_from, incomplete, is_complete};
-ghost use Rattle.capture_terms.specs.Plan.{IsClassifiable, IsPlan};
-ghost use Rattle.capture_terms.specs.declared.capture.Capture.{Capture};
+ghost use Rattle.capture_terms.specs.Plan.{IsPlanned};
 ghost use Rattle.rule_terms.specs.Match as matches;
 ghost use Rattle.tdsl_tool.specs.Members.{AreMembers, IsMembers, IsGrouped, tasks_at};
 ghost use Rattle.report.specs.Report.{rule_of};
@@ -58,7 +57,7 @@ fn add_group(
     bytes: &[u8],
     rules: &Rules,
 ) -> Result<(), AllocError>
-    requires planned { (capture : Capture) × IsClassifiable bytes.now capture × IsPlan bytes.now capture plan.now }
+    requires planned { IsPlanned bytes.now plan.now }
     requires whole { (group : ℕ) × IsMembers plan.now.tasks.items (length plan.now.tasks.items) group list.now.items }
     requires complete { is_complete (tasks_at plan.now.tasks.items list.now.items) ≡ true }
     ensures added { OnOk result (found.new.items ≡ found.old.items ++ findings_in rules.now bytes.now (tasks_at plan.now.tasks.items list.now.items)) }
@@ -82,7 +81,7 @@ fn add_findings(
     rules: &Rules,
     task: &Task,
 ) -> Result<(), AllocError>
-    requires planned { (capture : Capture) × IsClassifiable bytes.now capture × IsPlan bytes.now capture plan.now }
+    requires planned { IsPlanned bytes.now plan.now }
     requires member { Contains plan.now.tasks.items task.now }
     requires lists { AreMembers plan.now.tasks.items (length plan.now.tasks.items) (length lists.now) lists.now }
     requires grouped { IsGrouped (length lists.now) task.now }
@@ -136,7 +135,7 @@ fn match_all(
     rules: &Rules,
     most: u32,
 ) -> Result<Vec<u64>, FindingsEnd>
-    requires planned { (capture : Capture) × IsClassifiable bytes.now capture × IsPlan bytes.now capture plan.now }
+    requires planned { IsPlanned bytes.now plan.now }
     requires lists { AreMembers plan.now.tasks.items (length plan.now.tasks.items) (length lists.now) lists.now }
     requires grouped { All (IsGrouped (length lists.now)) plan.now.tasks.items }
     requires few { length plan.now.tasks.items < 2 ^ 32 }
@@ -166,7 +165,7 @@ pub fn find_all(
     rules: &Rules,
     most: u32,
 ) -> Result<Found, FindingsEnd>
-    requires planned { (capture : Capture) × IsClassifiable bytes.now capture × IsPlan bytes.now capture plan.now }
+    requires planned { IsPlanned bytes.now plan.now }
     requires few { length plan.now.tasks.items < 2 ^ 32 }
     requires few_groups { length plan.now.groups.items < 2 ^ 32 }
     requires grouped { All (IsGrouped (length plan.now.groups.items)) plan.now.tasks.items }

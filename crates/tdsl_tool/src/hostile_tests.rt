@@ -1,6 +1,79 @@
-// Captures and rules that are made to hurt.
-use crate::tests::{COMMAND, HEADER, add_fragment, inspected, one_frame, piece, repeated, report};
+// Captures and rules that are made to hurt, and identifications that are used again.
+use crate::tests::{
+    COMMAND, Fragment, HEADER, SEAM, add_fragment, inspected, one_frame, piece, repeated, report,
+};
+use std::alloc::{AllocError, Global};
 use std::test::Fail;
+
+// A fragment with the second and the fraction of its time.
+type Sent = (u32, u32, Fragment);
+
+fn capture_of(alloc: Global, sent: &[Sent]) -> Result<Vec<u8>, AllocError> {
+    let mut capture = HEADER.to_vec(alloc)?;
+    for (seconds, fraction, fragment) in sent {
+        add_fragment(&mut capture, *seconds, *fraction, *fragment)?;
+    }
+    Ok(capture)
+}
+
+const FIRST: Fragment = Fragment {
+    id: 1,
+    at: 0,
+    more: true,
+    data: b"abcdefgh",
+};
+
+const LAST: Fragment = Fragment {
+    id: 1,
+    at: 8,
+    more: false,
+    data: b"ijkl",
+};
+
+// Whether an inspection of fragments that were sent so gives the report with these counts and finding
+// lines.
+fn gives(
+    alloc: Global,
+    words: &[&str],
+    sent: &[Sent],
+    counts: [u32; 11],
+    findings: &str,
+) -> Result<bool, AllocError> {
+    let got = inspected(alloc, words, SEAM, &capture_of(alloc, sent)?, 0)?;
+    Ok(got.status == 0 && got.out.as_slice() == report(alloc, counts, findings)?.as_slice())
+}
+
+#[test]
+fn fragments_of_one_datagram_come_within_the_window(rt: HostRuntime) -> Result<(), Fail> {
+    let alloc = rt.alloc();
+    let one = [2, 0, 0, 0, 0, 2, 0, 0, 1, 0, 1];
+    let found = "finding 0 seam 6\n";
+    let in_time = [(0, 0, FIRST), (30, 0, LAST)];
+    let within = gives(alloc, &COMMAND, &in_time, one, found)?;
+    assert!(rt; within, "as late as the window allows");
+    let late = [(0, 0, FIRST), (30, 1, LAST)];
+    let parted = gives(
+        alloc,
+        &COMMAND,
+        &late,
+        [2, 0, 0, 0, 0, 2, 0, 0, 0, 2, 0],
+        "",
+    )?;
+    assert!(rt; parted, "a microsecond later");
+    let longer = ["inspect", "--window", "31", "r", "c"];
+    let joined = gives(alloc, &longer, &late, one, found)?;
+    assert!(rt; joined, "a longer window");
+    let again = [(0, 0, FIRST), (40, 0, FIRST), (41, 0, LAST)];
+    let second = gives(
+        alloc,
+        &COMMAND,
+        &again,
+        [3, 0, 0, 0, 0, 3, 0, 0, 1, 1, 1],
+        "finding 1 seam 6\n",
+    )?;
+    assert!(rt; second, "an identification that is used again");
+    Ok(())
+}
 
 const END: &[u8] = b"rule end proto any has \"Z\"";
 

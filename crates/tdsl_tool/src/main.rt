@@ -1,4 +1,5 @@
-//! Inspects captures of packets: `inspect RULES CAPTURE` writes a report of what the rules find.
+//! Inspects captures of packets: `inspect [--window N] RULES CAPTURE` writes a report of what the rules
+//! find.
 #![tactic(auto)]
 
 #[cfg(test)]

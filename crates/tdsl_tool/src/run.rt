@@ -10,7 +10,7 @@ use crate::inspection::report_under;
 use crate::laws::one_verdict;
 use byte_ends::{Files, ReadEnd, Sink, read_all, write_all};
 use capture_terms::some_answer;
-use command_words::{Command, FileNames, command_of};
+use command_words::{Command, FileNames, Settings, command_of};
 use report::{Fault, write_fault};
 use rule_matcher::{Rules, RulesEnd, rules};
 use std::alloc::Global;
@@ -58,10 +58,10 @@ fn report_for<'a, F: Files>(
     alloc: Global,
     files: &mut F,
     names: FileNames<'a>,
-    findings: u32,
+    settings: Settings,
 ) -> Result<Vec<u8>, Fault<'a>>
-    ensures report { IfOk result (λ text. ComesTo (reading (F.content files.old) (F.faults files.old) (F.faults files.new) (names_of names.entry) findings) (reports text.items)) }
-    ensures stops { IfErr result (λ fault. StopsAt (reading (F.content files.old) (F.faults files.old) (F.faults files.new) (names_of names.entry) findings) (cause_of fault)) }
+    ensures report { IfOk result (λ text. ComesTo (reading (F.content files.old) (F.faults files.old) (F.faults files.new) (names_of names.entry) settings) (reports text.items)) }
+    ensures stops { IfErr result (λ fault. StopsAt (reading (F.content files.old) (F.faults files.old) (F.faults files.new) (names_of names.entry) settings) (cause_of fault)) }
     ensures content { (file : List ℕ) → F.content files.new file ≡ F.content files.old file }
     ensures counts { (file : List ℕ) → F.faults files.old file ≤ F.faults files.new file }
 {
@@ -73,7 +73,7 @@ fn report_for<'a, F: Files>(
         Ok(bytes) => bytes,
         Err(fault) => return Err(fault),
     };
-    report_under(alloc, &rules, &bytes, findings)
+    report_under(alloc, &rules, &bytes, settings)
 }
 
 // Inspects, and writes the report.
@@ -82,15 +82,15 @@ fn inspect<'a, F: Files, O: Sink>(
     files: &mut F,
     out: &mut O,
     names: FileNames<'a>,
-    findings: u32,
+    settings: Settings,
 ) -> Result<(), Fault<'a>>
-    ensures ends { EndsSo (reading (F.content files.old) (F.faults files.old) (F.faults files.new) (names_of names.entry) findings)
+    ensures ends { EndsSo (reading (F.content files.old) (F.faults files.old) (F.faults files.new) (names_of names.entry) settings)
         (writing (O.written out.old) (O.written out.new) (O.faults out.old) (O.faults out.new)) (ending_of result) }
     ensures content { (file : List ℕ) → F.content files.new file ≡ F.content files.old file }
     ensures counts { (file : List ℕ) → F.faults files.old file ≤ F.faults files.new file }
     ensures counts_out { O.faults out.old ≤ O.faults out.new }
 {
-    let text = match report_for(alloc, files, names, findings) {
+    let text = match report_for(alloc, files, names, settings) {
         Ok(text) => text,
         Err(fault) => return Err(fault),
     };
@@ -126,7 +126,7 @@ fn finish<E: Sink>(faults: &mut E, ended: Result<(), Fault<'_>>) -> u8
 /// Does all that the program does, for the words behind the program's own name, and answers the
 /// status that it ends with.
 ///
-/// `inspect RULES CAPTURE` reads the two files and writes the report to `out`. Every other list of
+/// `inspect [--window N] RULES CAPTURE` reads the two files and writes the report to `out`. Every other list of
 /// words is a fault of usage. The steps are taken in order: the words, the rule file, its text, the
 /// capture file, its format, the findings, writing. The first that fails decides the status, and a
 /// line about it goes to `faults`.
@@ -159,8 +159,8 @@ pub fn run_with<Rt, F: Files, O: Sink, E: Sink>(
     some_answer();
     match command_of(words) {
         Command::Unknown => tell(faults, &Fault::Usage),
-        Command::Inspect { names, findings } => {
-            let ended = inspect(alloc, files, out, names, findings);
+        Command::Inspect { names, settings } => {
+            let ended = inspect(alloc, files, out, names, settings);
             finish(faults, ended)
         }
     }

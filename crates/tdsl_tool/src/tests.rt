@@ -126,7 +126,7 @@ pub(crate) fn report(
 
 // The line of a fault of usage.
 pub(crate) const USAGE: &str =
-    "usage: inspect|journal [--workers N] [--findings N] RULES CAPTURE | make SEED FRAMES | trial [--workers N] SEED FRAMES\n";
+    "usage: inspect|journal [--workers N] [--findings N] [--window N] RULES CAPTURE | make SEED FRAMES | trial [--workers N] SEED FRAMES\n";
 
 pub(crate) const COMMAND: [&str; 3] = ["inspect", "r", "c"];
 
@@ -281,7 +281,8 @@ fn fragments_make_datagrams(rt: HostRuntime) -> Result<(), Fail> {
 #[test]
 fn other_words_are_a_fault_of_usage(rt: HostRuntime) -> Result<(), Fail> {
     let alloc = rt.alloc();
-    let lists: [&[&str]; 7] = [
+    let lists: [&[&str]; 8] = [
+        &["inspect", "--window", "0", "r", "c"],
         &["inspect", "--workers", "17", "r", "c"],
         &["inspect", "r"],
         &["inspect", "--workers", "4", "--workers", "4", "r", "c"],

@@ -13,7 +13,7 @@ returns-in-None-clause-added c =
     let task = c.args.task.now in
     let planned = c.requires.planned in
     let whole = All-contains (λ (t : Task). t.group ≡ None → payload_of bytes (t ∷ []) ≡ take t.length (drop t.from bytes)) tasks task
-    (c.task_law.ensures.whole bytes planned.0 c.args.plan.now planned.1 planned.2) c.requires.member c.in-None.is in
+    (c.task_law.ensures.whole bytes planned.capture planned.window c.args.plan.now planned.fine planned.is) c.requires.member c.in-None.is in
     let length_is : task.from + task.length - task.from ≡ task.length = omega arith in
     let piece = ap (λ (n : ℕ). take n (drop task.from bytes)) length_is ∙ sym whole in
     on_ok_weaker c.add_found.result

@@ -13,7 +13,7 @@ returns-in-Err-bytes_of-clause-stops g c =
     let faults = g.F.Files.faults in
     let capture = c.args.names.capture.now in
     inr (stops_unread
-    (reading (content c.args.files.now) (faults c.args.files.now) (faults c.bytes_of.new.files) (names_of c.args.names) c.args.findings)
+    (reading (content c.args.files.now) (faults c.args.files.now) (faults c.bytes_of.new.files) (names_of c.args.names) c.args.settings)
     c.in-Ok.rules c.in-Ok.ensures.rules
     (source (content c.rules_from.new.files) (faults c.rules_from.new.files) (faults c.bytes_of.new.files) capture)
     refl (c.rules_from.ensures.content capture) (λ failed. omega (arith, c.rules_from.ensures.counts capture, failed))
@@ -26,7 +26,7 @@ returns-clause-report g c =
     let capture = c.args.names.capture.now in
     IfOk-weaker c.report_under.result _ _
     (λ text under. comes_to_of
-    (reading (content c.args.files.now) (faults c.args.files.now) (faults c.bytes_of.new.files) (names_of c.args.names) c.args.findings)
+    (reading (content c.args.files.now) (faults c.args.files.now) (faults c.bytes_of.new.files) (names_of c.args.names) c.args.settings)
     c.in-Ok.rules c.in-Ok.ensures.rules c.deref.result.now
     (λ bytes told. c.deref.ensures.value ∙ c.in-Ok-bytes_of.ensures.whole bytes (c.rules_from.ensures.content capture ∙ told))
     (reports text.items) (under capture))
@@ -39,7 +39,7 @@ returns-clause-stops g c =
     let capture = c.args.names.capture.now in
     IfErr-weaker c.report_under.result _ _
     (λ fault under. inr (stops_at
-    (reading (content c.args.files.now) (faults c.args.files.now) (faults c.bytes_of.new.files) (names_of c.args.names) c.args.findings)
+    (reading (content c.args.files.now) (faults c.args.files.now) (faults c.bytes_of.new.files) (names_of c.args.names) c.args.settings)
     c.in-Ok.rules c.in-Ok.ensures.rules c.deref.result.now
     (λ bytes told. c.deref.ensures.value ∙ c.in-Ok-bytes_of.ensures.whole bytes (c.rules_from.ensures.content capture ∙ told))
     (cause_of fault) (under capture)))
