@@ -1,12 +1,15 @@
 #!/usr/bin/env python3
 """Writes captures for the benchmark: captures.py KIND FRAMES FILE.
 
-KIND is `mixed` (whole UDP datagrams, other frames and datagrams in three fragments), `clashing` (8,192
-places of one datagram, sent again and again; the last three lie beyond the greatest datagram), `long`
-(one datagram in so many fragments of 8 bytes, the last one first), `large` (whole datagrams of 1,400
-bytes), `single` (one fragment of each of so many datagrams), `colliding` (the same, of keys that a hash
-table with a fixed seed puts side by side), or `example` (the small capture in examples/; FRAMES is passed
-over).
+KIND is `mixed` (whole UDP datagrams, other frames and datagrams in three fragments), `whole` (small whole
+datagrams), `clashing` (8,192 places of one datagram, sent again and again; the last three lie beyond the
+greatest datagram), `backwards` (the same, each a second earlier than the one before), `reused` (fragments
+of one identification, each of which begins a generation), `descending` (datagrams in 8,189 fragments of 8
+bytes, sent side by side from their ends), `long` (one datagram in so many fragments of 8 bytes, the last
+one first), `large` (whole datagrams of 1,400 bytes), `single` (one fragment of each of so many datagrams),
+`colliding` (the same, of keys that a hash table with a fixed seed puts side by side), or `example` (the
+small capture in examples/; FRAMES is passed over). A frame's time is its number in seconds, where fragments
+aren't to come at once or otherwise.
 """
 import struct
 import sys
@@ -20,8 +23,8 @@ def file_header():
     return struct.pack("<IHHiIII", 0xA1B2C3D4, 2, 4, 0, 0, 262144, 1)
 
 
-def record(number, frame):
-    return struct.pack("<IIII", number, 0, len(frame), len(frame)) + frame
+def record(seconds, frame):
+    return struct.pack("<IIII", seconds, 0, len(frame), len(frame)) + frame
 
 
 def ip(identification, offset, more, protocol, data, source=SOURCE):
@@ -55,6 +58,23 @@ def mixed(frames):
 def clashing(frames):
     for number in range(frames):
         yield ip(1, 8 * (number % 8192), True, 1, b"aaaaaaaa")
+
+
+def whole(frames):
+    for number in range(frames):
+        yield ip(number & 0xFFFF, 0, False, 1, b"aaaaaaaa")
+
+
+def reused(frames):
+    for _ in range(frames):
+        yield ip(1, 0, True, 1, b"aaaaaaaa")
+
+
+def descending(frames):
+    keys = max(frames // 8189, 1)
+    for number in range(frames):
+        place = 8188 - number // keys % 8189
+        yield ip(number % keys, 8 * place, place < 8188, 1, b"aaaaaaaa")
 
 
 def long(frames):
@@ -120,17 +140,28 @@ def example(_frames):
 
 
 KINDS = {
-    "mixed": mixed, "clashing": clashing, "long": long, "large": large,
-    "single": single, "colliding": colliding, "example": example,
+    "mixed": mixed, "whole": whole, "clashing": clashing, "backwards": clashing, "reused": reused,
+    "descending": descending, "long": long, "large": large, "single": single, "colliding": colliding,
+    "example": example,
+}
+
+# The second of a frame by its number and that of all frames.
+SECONDS = {
+    "clashing": lambda number, frames: 0,
+    "backwards": lambda number, frames: frames - number,
+    "reused": lambda number, frames: 31 * number,
+    "descending": lambda number, frames: 0,
+    "long": lambda number, frames: 0,
 }
 
 
 def main():
     kind, frames, name = sys.argv[1], int(sys.argv[2]), sys.argv[3]
+    seconds = SECONDS.get(kind, lambda number, frames: number)
     with open(name, "wb") as out:
         out.write(file_header())
         for number, frame in enumerate(KINDS[kind](frames)):
-            out.write(record(number, frame))
+            out.write(record(seconds(number, frames), frame))
 
 
 main()
