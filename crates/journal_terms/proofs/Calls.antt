@@ -15,7 +15,7 @@ use Rattle.journal_terms.specs.Laws.{HasShortCall, HasShortReply, IsWritable}
 use Rattle.journal_terms.proofs.Cutting.{Lacks, plain, cut_join, lacks_join}
 use Rattle.journal_terms.proofs.Words.{IsWord, plain_word, decimal_word, reply_is_word, number_back, value_or_absent_back, value_back, flag_back}
 
-nothing_back : (r : Reply) → IsNothing r → Nothing ≡ r
+pub nothing_back : (r : Reply) → IsNothing r → Nothing ≡ r
 nothing_back Nothing k = refl
 nothing_back Absent k = absurd k
 nothing_back (Value v) k = absurd k
@@ -75,7 +75,7 @@ pub each_map : {A : Type 0} (P Q : A → Type 0) → ((x : A) → P x → Q x) �
 each_map P Q f [] e = tt
 each_map P Q f (x ∷ xs) e = (f x e.0, each_map P Q f xs e.1)
 
-all_words : (d : Done) → IsWritable d → Each IsWord ((mark d.child ++ call_name d.call) ∷ call_words d.call d.reply)
+pub all_words : (d : Done) → IsWritable d → Each IsWord ((mark d.child ++ call_name d.call) ∷ call_words d.call d.reply)
 all_words d w = (name_word d.child d.call, words_are d.call d.reply w.1 w.2)
 
 done_back : (d : Done) → IsWritable d → read_done (cut_at space (space ∷ done_text d)) ≡ Some d
@@ -86,10 +86,10 @@ done_back d w = let name : List ℕ = mark d.child ++ call_name d.call in let wo
 done_lacks : (c : ℕ) → eqb 32 c ≡ false → ((x : List ℕ) → IsWord x → Lacks c x) → (d : Done) → IsWritable d → Lacks c (space ∷ done_text d)
 done_lacks c ne f d w = All-cons (λ x. eqb x c ≡ false) space (done_text d) ne (lacks_join c space ne ((mark d.child ++ call_name d.call) ∷ call_words d.call d.reply) (each_map IsWord (Lacks c) f ((mark d.child ++ call_name d.call) ∷ call_words d.call d.reply) (all_words d w)))
 
-abbrev spaced : Done → List ℕ
+abbrev pub spaced : Done → List ℕ
 spaced d = space ∷ done_text d
 
-pieces_lack : (c : ℕ) → eqb 32 c ≡ false → ((x : List ℕ) → IsWord x → Lacks c x) → (ds : List Done) → Each IsWritable ds → Each (Lacks c) (map spaced ds)
+pub pieces_lack : (c : ℕ) → eqb 32 c ≡ false → ((x : List ℕ) → IsWord x → Lacks c x) → (ds : List Done) → Each IsWritable ds → Each (Lacks c) (map spaced ds)
 pieces_lack c ne f [] w = tt
 pieces_lack c ne f (d ∷ ds) w = (done_lacks c ne f d w.0, pieces_lack c ne f ds w.1)
 

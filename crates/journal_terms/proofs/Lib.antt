@@ -1,4 +1,12 @@
 pub mod Cutting
 pub mod Words
 pub mod Calls
+pub mod Heads
 pub mod Records
+pub mod Journals
+pub mod Beginnings
+pub mod StrictNumbers
+pub mod StrictCalls
+pub mod StrictLines
+pub mod Histories
+pub mod Grown

@@ -33,7 +33,7 @@ pub number_back : (n : ℕ) → IsShort n → number (decimal n) ≡ n
 number_back n l = (decimal_is_IsNumeral n l).1
 
 -- a word of digits isn't the word of an absent reply
-not_dash : (w : List ℕ) → 0 < length w → Lacks 45 w → bytes_eq w (codes "-") ≡ false
+pub not_dash : (w : List ℕ) → 0 < length w → Lacks 45 w → bytes_eq w (codes "-") ≡ false
 not_dash [] l d = absurd (omega arith)
 not_dash (x ∷ xs) l d = let e = All-head (λ y. eqb y 45 ≡ false) x xs d in rw e
 

@@ -5,9 +5,12 @@ use Rattle.serial_terms.specs.declared.call.Call.TheVariants.{MapGet, MapPut, Ma
 use Rattle.serial_terms.specs.declared.call.Reply.{Reply}
 use Rattle.serial_terms.specs.declared.call.Reply.TheVariants.{Nothing, Absent, Value, Flag}
 use Rattle.serial_terms.specs.declared.call.Done.{Done}
+use Rattle.serial_terms.specs.declared.sight.SightEnd.{SightEnd}
+use Rattle.serial_terms.specs.declared.sight.SightEnd.TheVariants.{Aborted, Refused, Full, Child}
 use Rattle.serial_terms.specs.Entries.{Entry, Each}
 use Rattle.serial_terms.specs.Kinds.{HasKind}
-use Rattle.journal_terms.specs.Text.{Journal, journal_text}
+use Rattle.serial_terms.specs.Sights.{Seen}
+use Rattle.journal_terms.specs.Text.{Journal, journal_text, sights_in}
 use Rattle.journal_terms.specs.Reading.{read_journal}
 
 -- the number fits in 64 bits
@@ -47,11 +50,25 @@ pub record IsWritableEntry (e : Entry Done) : Type 0 where
   pub place : IsShort e.place
   pub dones : Each IsWritable e.dones
 
+abbrev pub HasShortEnd : SightEnd → Type 0
+HasShortEnd Aborted = Unit {0}
+HasShortEnd Refused = Unit {0}
+HasShortEnd (Full part values adding) = IsShort part × IsShort values × IsShort adding
+HasShortEnd Child = Unit {0}
+
+pub record IsWritableSight (v : Seen Done) : Type 0 where
+  pub caller : IsShort v.caller
+  pub after : IsShort v.after
+  pub place : IsShort v.place
+  pub end : HasShortEnd v.end
+  pub dones : Each IsWritable v.dones
+
 pub record IsWritableJournal (j : Journal) : Type 0 where
   pub tasks : IsShort j.tasks
   pub groups : IsShort j.groups
   pub findings : IsShort j.findings
   pub records : Each IsWritableEntry j.records
+  pub sights : Each IsWritableSight (sights_in j.sights)
 
 -- the text is a journal's
 abbrev pub IsJournalText : List ℕ → Type 0
@@ -61,6 +78,7 @@ IsJournalText text = (j : Journal) × IsWritableJournal j × (journal_text j ≡
 abbrev pub TextReadsBack : Type 0
 TextReadsBack = (j : Journal) → IsWritableJournal j → read_journal (journal_text j) ≡ Some j
 
+-- so one text is of one journal; as a journal of version 1 has no word of sights, its text tells the numbers and the records
 abbrev pub OneTextOneJournal : Type 0
 OneTextOneJournal = (j k : Journal) → IsWritableJournal j → IsWritableJournal k → journal_text j ≡ journal_text k → j ≡ k
 

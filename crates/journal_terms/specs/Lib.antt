@@ -2,3 +2,6 @@ pub mod Text
 pub mod Reading
 pub mod Laws
 pub mod Worked
+pub mod Legal
+pub mod Strict
+pub mod Growing

@@ -1,9 +1,10 @@
 -- A reading of the journal's text: lines are cut at line feeds, a record at its colon, its calls at semicolons, and words at spaces.
 --
 -- It gives each journal back from its text, and is lenient about texts that are no journal's: a word where a number stands is taken for
--- one whatever its bytes are and however many zeros it begins with, each word but `yes` says that an item wasn't added, and each but
--- `w` that a record is read-only. So whether a text is a journal's is said by the text of the journal that was read (Laws.antt).
-use Rattle.std.specs.Prelude.{ℕ, Bool, true, false, ◌==◌, if◌then◌else◌, List, [], ◌∷◌, Option, Some, None, codes}
+-- one whatever its bytes are and however many zeros it begins with, each word but `yes` says that an item wasn't added, each but
+-- `w` that a record is read-only, and each but `a` and `c` that a child was dropped. So whether a text is a journal's is said by
+-- the text of the journal that was read (Laws.antt).
+use Rattle.std.specs.Prelude.{ℕ, Bool, true, false, ◌==◌, ◌&&◌, if◌then◌else◌, List, [], ◌∷◌, Option, Some, None, codes}
 use Rattle.std.specs.Str.{bytes_eq}
 use Rattle.std.specs.Str.Parse.{digits_value}
 use Rattle.std.specs.List.{slice_split}
@@ -12,7 +13,10 @@ use Rattle.serial_terms.specs.declared.call.Call.TheVariants.{MapGet, MapPut, Ma
 use Rattle.serial_terms.specs.declared.call.Reply.{Reply}
 use Rattle.serial_terms.specs.declared.call.Reply.TheVariants.{Nothing, Absent, Value, Flag}
 use Rattle.serial_terms.specs.declared.call.Done.{Done}
+use Rattle.serial_terms.specs.declared.sight.SightEnd.{SightEnd}
+use Rattle.serial_terms.specs.declared.sight.SightEnd.TheVariants.{Aborted, Refused, Full, Child}
 use Rattle.serial_terms.specs.Entries.{Entry}
+use Rattle.serial_terms.specs.Sights.{Seen}
 use Rattle.journal_terms.specs.Text.{Journal, space, line_feed, colon, semicolon}
 
 abbrev pub cut_at : ℕ → List ℕ → List (List ℕ)
@@ -112,17 +116,55 @@ module _ {A : Type 0} where
   read_records read_tail [] = without_records (read_tail [])
   read_records read_tail (line ∷ lines) = if is_record_line line then with_record (read_record line) (read_records read_tail lines) else without_records (read_tail (line ∷ lines))
 
--- in version 1 the line `end` stands behind the records, and nothing behind it
-abbrev pub read_end : List (List ℕ) → Option (Unit {0})
-read_end (line ∷ [] ∷ []) = if bytes_eq line (codes "end") then Some tt else None
-read_end _ = None
+-- ---- sights
 
-abbrev pub read_open : List (List ℕ) → Option (List (Entry Done) × Unit {0}) → Option Journal
-read_open (o ∷ tasks ∷ groups ∷ findings ∷ []) (Some read) = if bytes_eq o (codes "open") then Some record { tasks = number tasks; groups = number groups; findings = number findings; records = read.0 } else None
+abbrev pub ended : List ℕ → SightEnd
+ended word = if bytes_eq word (codes "a") then Aborted else if bytes_eq word (codes "c") then Refused else Child
+
+abbrev pub read_sight_head : List (List ℕ) → Option (List Done) → Option (Seen Done)
+read_sight_head (s ∷ place ∷ end ∷ caller ∷ after ∷ []) (Some dones) = if bytes_eq s (codes "s") then Some record { caller = number caller; after = number after; place = number place; end = ended end; dones = dones } else None
+read_sight_head (s ∷ place ∷ end ∷ part ∷ values ∷ adding ∷ caller ∷ after ∷ []) (Some dones) = if bytes_eq s (codes "s") && bytes_eq end (codes "f") then Some record { caller = number caller; after = number after; place = number place; end = Full (number part) (number values) (number adding); dones = dones } else None
+read_sight_head _ _ = None
+
+abbrev pub read_sight_parts : List (List ℕ) → Option (Seen Done)
+read_sight_parts (head ∷ calls ∷ []) = read_sight_head (cut_at space head) (read_calls calls)
+read_sight_parts _ = None
+
+abbrev pub read_sight : List ℕ → Option (Seen Done)
+read_sight line = read_sight_parts (cut_at colon line)
+
+-- a sight's line is one that begins with the letter s
+abbrev pub is_sight_line : List ℕ → Bool
+is_sight_line [] = false
+is_sight_line (b ∷ bs) = b == 115
+
+abbrev pub with_sight : Option (Seen Done) → Option (Option (List (Seen Done))) → Option (Option (List (Seen Done)))
+with_sight (Some v) (Some (Some vs)) = Some (Some (v ∷ vs))
+with_sight _ _ = None
+
+-- the line `end` stands behind the records and sights, and nothing behind it
+abbrev pub is_end : List (List ℕ) → Bool
+is_end (line ∷ [] ∷ []) = bytes_eq line (codes "end")
+is_end _ = false
+
+-- what stands behind the records in version 1, and in version 2
+abbrev pub read_first : List (List ℕ) → Option (Option (List (Seen Done)))
+read_first lines = if is_end lines then Some None else None
+
+abbrev pub read_second : List (List ℕ) → Option (Option (List (Seen Done)))
+read_second [] = None
+read_second (line ∷ lines) = if is_sight_line line then with_sight (read_sight line) (read_second lines) else if is_end (line ∷ lines) then Some (Some []) else None
+
+-- ---- the journal
+
+abbrev pub read_open : List (List ℕ) → Option (List (Entry Done) × Option (List (Seen Done))) → Option Journal
+read_open (o ∷ tasks ∷ groups ∷ findings ∷ []) (Some read) = if bytes_eq o (codes "open") then Some record { tasks = number tasks; groups = number groups; findings = number findings; records = read.0; sights = read.1 } else None
 read_open _ _ = None
 
 abbrev pub read_lines : List (List ℕ) → Option Journal
-read_lines (title ∷ head ∷ lines) = if bytes_eq title (codes "journal 1") then read_open (cut_at space head) (read_records read_end lines) else None
+read_lines (title ∷ head ∷ lines) = if bytes_eq title (codes "journal 1") then read_open (cut_at space head) (read_records read_first lines)
+    else if bytes_eq title (codes "journal 2") then read_open (cut_at space head) (read_records read_second lines)
+    else None
 read_lines _ = None
 
 abbrev pub read_journal : List ℕ → Option Journal

@@ -1,19 +1,24 @@
--- The journal of a run, version 1, as a text.
-use Rattle.std.specs.Prelude.{ℕ, Bool, true, false, List, [], ◌∷◌, ◌++◌, map, codes, decimal}
+-- The journal of a run as a text: version 1 has the committed records, version 2 the sights behind them, too.
+use Rattle.std.specs.Prelude.{ℕ, Bool, true, false, List, [], ◌∷◌, ◌++◌, map, Option, Some, None, codes, decimal}
 use Rattle.std.specs.List.{join_with_byte}
 use Rattle.serial_terms.specs.declared.call.Call.{Call}
 use Rattle.serial_terms.specs.declared.call.Call.TheVariants.{MapGet, MapPut, MapRemove, MapPutIfAbsent, Enqueue, Dequeue, QueueLen, Take, Give, Append, AppendPlaced, LogRead, LogLen, CellGet, CellPut}
 use Rattle.serial_terms.specs.declared.call.Reply.{Reply}
 use Rattle.serial_terms.specs.declared.call.Reply.TheVariants.{Nothing, Absent, Value, Flag}
 use Rattle.serial_terms.specs.declared.call.Done.{Done}
+use Rattle.serial_terms.specs.declared.sight.SightEnd.{SightEnd}
+use Rattle.serial_terms.specs.declared.sight.SightEnd.TheVariants.{Aborted, Refused, Full, Child}
 use Rattle.serial_terms.specs.Entries.{Entry}
+use Rattle.serial_terms.specs.Sights.{Seen}
 
--- the numbers of tasks and groups that the run was opened with, the capacity of its log, and the committed records in order
+-- the numbers of tasks and groups that the run was opened with, the capacity of its log, the committed records in order, and the
+-- sights in order; a journal of version 1 has no word of sights
 pub record Journal : Type 0 where
   pub tasks : ℕ
   pub groups : ℕ
   pub findings : ℕ
   pub records : List (Entry Done)
+  pub sights : Option (List (Seen Done))
 
 abbrev pub space : ℕ
 space = 32
@@ -91,11 +96,37 @@ writer_word false = codes "r"
 abbrev pub record_text : Entry Done → List ℕ
 record_text e = join_with_byte space (codes "t" ∷ decimal e.place ∷ writer_word e.writer ∷ decimal e.caller ∷ decimal e.index ∷ []) ++ colon ∷ calls_text e.dones
 
+-- how a sight ended; a refusal for want of capacity with its part, the part's length and how many were to be added
+abbrev pub end_words : SightEnd → List (List ℕ)
+end_words Aborted = codes "a" ∷ []
+end_words Refused = codes "c" ∷ []
+end_words (Full part values adding) = codes "f" ∷ decimal part ∷ decimal values ∷ decimal adding ∷ []
+end_words Child = codes "k" ∷ []
+
+-- a sight: its place, how it ended, its caller and how many records that had before, and after a colon its calls
+abbrev pub sight_text : Seen Done → List ℕ
+sight_text v = join_with_byte space (codes "s" ∷ decimal v.place ∷ (end_words v.end ++ decimal v.caller ∷ decimal v.after ∷ [])) ++ colon ∷ calls_text v.dones
+
+abbrev pub title : Option (List (Seen Done)) → List ℕ
+title None = codes "journal 1"
+title (Some vs) = codes "journal 2"
+
+abbrev pub sights_in : Option (List (Seen Done)) → List (Seen Done)
+sights_in None = []
+sights_in (Some vs) = vs
+
+abbrev pub sizes_text : ℕ → ℕ → ℕ → List ℕ
+sizes_text tasks groups findings = join_with_byte space (codes "open" ∷ decimal tasks ∷ decimal groups ∷ decimal findings ∷ [])
+
 abbrev pub open_text : Journal → List ℕ
-open_text j = join_with_byte space (codes "open" ∷ decimal j.tasks ∷ decimal j.groups ∷ decimal j.findings ∷ [])
+open_text j = sizes_text j.tasks j.groups j.findings
 
 abbrev pub journal_lines : Journal → List (List ℕ)
-journal_lines j = codes "journal 1" ∷ open_text j ∷ (map record_text j.records ++ codes "end" ∷ [])
+journal_lines j = title j.sights ∷ open_text j ∷ (map record_text j.records ++ (map sight_text (sights_in j.sights) ++ codes "end" ∷ []))
+
+-- all lines but the last
+abbrev pub begun_lines : Journal → List (List ℕ)
+begun_lines j = title j.sights ∷ open_text j ∷ (map record_text j.records ++ map sight_text (sights_in j.sights))
 
 -- each line with a line feed behind it
 abbrev pub lines_text : List (List ℕ) → List ℕ

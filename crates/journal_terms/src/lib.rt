@@ -1,10 +1,14 @@
-//! The journal of a run, version 1: the text of a history, and a reading of it that gives the history back.
+//! The journal of a run, in two versions: the text of a history, in version 2 with its sights, a reading of it that gives them back,
+//! and which texts are those of legal histories.
 //!
 //! Each function does nothing; what it ensures is the law.
 #![tactic(auto)]
 
 ghost use Rattle.journal_terms.specs.Laws.{TextReadsBack, OneTextOneJournal, JournalTextsAreRead};
 ghost use Rattle.journal_terms.specs.Worked.{WorkedJournals, WrongJournals};
+ghost use Rattle.journal_terms.specs.Legal.{FirstBadLines};
+ghost use Rattle.journal_terms.specs.Growing.{BeginningsAreLegal, HistoriesGrow, JournalsGrow};
+ghost use Rattle.journal_terms.specs.Strict.{LinesAreRead};
 
 /// Reading the text of a journal gives the journal back, whatever numbers below 2^64 and whatever calls it has,
 /// each with a reply of its call's kind.
@@ -27,7 +31,33 @@ pub fn wrong_journals_law()
     ensures { WrongJournals }
 {}
 
-/// The texts of three worked journals, among them one with each form of each call, are the stated lines.
+/// The texts of worked journals, among them one with each form of each call and one with each form of a sight, are the stated lines.
 pub fn worked_journals_law()
     ensures { WorkedJournals }
+{}
+
+/// No text has two first bad lines, and a legal journal's text has none.
+pub fn first_bad_lines_law()
+    ensures { FirstBadLines }
+{}
+
+/// A strict reading takes a line for an opening, a record or a sight exactly where it is that one's text.
+pub fn lines_are_read_law()
+    ensures { LinesAreRead }
+{}
+
+/// A legal history goes on by a record exactly where that record may stand behind its last one, has its index and runs from its end.
+pub fn histories_grow_law()
+    ensures { HistoriesGrow }
+{}
+
+/// A title stands first in a legal journal, and behind it sizes in their ranges; with no more it may end.
+pub fn beginnings_are_legal_law()
+    ensures { BeginningsAreLegal }
+{}
+
+/// Behind the lines of a legal journal but for its end stands the end, or a further record or sight with which it is legal; behind the
+/// end stands nothing.
+pub fn journals_grow_law()
+    ensures { JournalsGrow }
 {}

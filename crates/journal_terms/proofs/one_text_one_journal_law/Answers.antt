@@ -1,4 +1,4 @@
-use Rattle.journal_terms.proofs.Records.{one_text}
+use Rattle.journal_terms.proofs.Journals.{one_text}
 use Rattle.journal_terms.proofs.one_text_one_journal_law.Goals as goal
 
 pub returns : goal.returns
