@@ -10,3 +10,4 @@ pub mod StrictCalls
 pub mod StrictLines
 pub mod Histories
 pub mod Grown
+pub mod Suits

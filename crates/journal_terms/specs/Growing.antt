@@ -1,11 +1,13 @@
 -- How a legal journal grows line by line: what may stand behind the lines of one.
-use Rattle.std.specs.Prelude.{◌≡◌, ◌↔◌, ◌⊎◌, ℕ, ◌<◌, Bool, true, false, IsTrue, List, [], ◌∷◌, ◌++◌, length, Option, Some, None, codes}
+use Rattle.std.specs.Prelude.{◌≡◌, ◌↔◌, ◌⊎◌, ℕ, ◌<◌, ◌≤◌, Bool, true, false, IsTrue, List, [], ◌∷◌, ◌++◌, length, Option, Some, None, codes}
 use Rattle.serial_terms.specs.declared.call.Done.{Done}
-use Rattle.serial_terms.specs.Entries.{Entry, Precedes, by_caller}
+use Rattle.serial_terms.specs.Entries.{Entry, Each, Precedes, by_caller}
 use Rattle.serial_terms.specs.Histories.{IsLegalRun, IsLegalHistory}
 use Rattle.serial_terms.specs.Serial.{State}
-use Rattle.serial_terms.specs.Sights.{Seen}
-use Rattle.journal_terms.specs.Legal.{AreSizes, IsLegalJournal, BeginsLegal}
+use Rattle.serial_terms.specs.Sights.{Seen, IsSeenBefore, IsConsistent, IsAfterItsCallers}
+use Rattle.journal_terms.specs.Legal.{AreSizes, IsRecordIn, IsSightIn, IsLegalJournal, BeginsLegal, layout_of, start_of}
+use Rattle.journal_terms.specs.Laws.{IsWritableEntry, IsWritableSight}
+use Rattle.journal_terms.specs.Strict.{IsReadableRecord, IsReadableSight}
 use Rattle.journal_terms.specs.Text.{Journal, title, sizes_text, record_text, sight_text, sights_in, begun_lines, journal_lines}
 
 -- ---- the first two lines
@@ -84,3 +86,30 @@ pub record IsNext (last : Option (Entry Done)) (count : ℕ) (e : Entry Done) : 
 abbrev pub HistoriesGrow : Type 0
 HistoriesGrow = (start end : State) (history : List (Entry Done)) → IsLegalHistory start history end → (e : Entry Done) (u : State)
     → IsLegalHistory start (history ++ e ∷ []) u ↔ (IsNext (last_of history) (length (by_caller e.caller history)) e × IsLegalRun end (e ∷ []) u)
+
+-- ---- what a further record and a further sight have to be
+
+-- the record may stand behind the records of a journal whose history ends so
+pub record SuitsAsRecord (j : Journal) (end : State) (e : Entry Done) : Type 0 where
+  pub writable : IsWritableEntry e
+  pub within : IsRecordIn (layout_of j) e
+  pub next : IsNext (last_of j.records) (length (by_caller e.caller j.records)) e
+  pub run : (u : State) × IsLegalRun end (e ∷ []) u
+
+-- the sight may stand behind the sights of a journal
+pub record SuitsAsSight (j : Journal) (v : Seen Done) : Type 0 where
+  pub writable : IsWritableSight v
+  pub within : IsSightIn (layout_of j) v
+  pub order : Each (λ w. IsSeenBefore w v) (sights_in j.sights)
+  pub rising : Each (λ w. w.caller ≡ v.caller → w.after ≤ v.after) (sights_in j.sights)
+  pub consistent : IsConsistent 1 (start_of j) j.records v
+  pub after : IsAfterItsCallers j.records v
+
+-- with such a record, and with such a sight, a legal journal stays legal, and with no other one
+pub record WhatSuits : Type 0 where
+  pub records : (j : Journal) → IsLegalJournal j → sights_in j.sights ≡ [] → (end : State) → IsLegalHistory (start_of j) j.records end
+      → (e : Entry Done) → IsLegalJournal (with_record j e) ↔ SuitsAsRecord j end e
+  pub sights : (j : Journal) → IsLegalJournal j → (v : Seen Done) → IsLegalJournal (with_sight j v) ↔ SuitsAsSight j v
+  -- a strict reading reads them all
+  pub records_readable : (j : Journal) (end : State) (e : Entry Done) → SuitsAsRecord j end e → IsReadableRecord e
+  pub sights_readable : (j : Journal) (v : Seen Done) → SuitsAsSight j v → IsReadableSight v

@@ -1,6 +1,8 @@
 -- Which journals a legal run may have written, which lines begin such a journal, and the first line of a text that doesn't.
-use Rattle.std.specs.Prelude.{◌≡◌, ℕ, ◌-◌, ◌^◌, ◌<◌, ◌≤◌, List, ◌++◌, length, take}
+use Rattle.std.specs.Prelude.{◌≡◌, ℕ, ◌+◌, ◌-◌, ◌^◌, ◌<◌, ◌≤◌, List, ◌++◌, length, take}
 use Rattle.serial_terms.specs.declared.call.Done.{Done}
+use Rattle.serial_terms.specs.declared.sight.SightEnd.{SightEnd}
+use Rattle.serial_terms.specs.declared.sight.SightEnd.TheVariants.{Aborted, Refused, Full, Child}
 use Rattle.serial_terms.specs.declared.store.Layout.{Layout}
 use Rattle.serial_terms.specs.Entries.{Entry, Each}
 use Rattle.serial_terms.specs.Histories.{IsLegalHistory}
@@ -25,9 +27,17 @@ pub record IsRecordIn (layout : Layout) (e : Entry Done) : Type 0 where
   pub place : e.place < 2 ^ 60
   pub calls : AreCallsOf BelowCapacity layout e.dones
 
+-- a refusal names a queue or a log that is there
+abbrev pub IsEndIn : Layout → SightEnd → Type 0
+IsEndIn layout Aborted = Unit {0}
+IsEndIn layout Refused = Unit {0}
+IsEndIn layout (Full part values adding) = part < length layout.queues + length layout.logs
+IsEndIn layout Child = Unit {0}
+
 pub record IsSightIn (layout : Layout) (v : Seen Done) : Type 0 where
   pub caller : v.caller < 16
   pub place : v.place < 2 ^ 60
+  pub end : IsEndIn layout v.end
   pub calls : AreCallsOf BelowCapacity layout v.dones
 
 abbrev pub layout_of : Journal → Layout

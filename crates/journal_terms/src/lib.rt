@@ -7,7 +7,7 @@
 ghost use Rattle.journal_terms.specs.Laws.{TextReadsBack, OneTextOneJournal, JournalTextsAreRead};
 ghost use Rattle.journal_terms.specs.Worked.{WorkedJournals, WrongJournals};
 ghost use Rattle.journal_terms.specs.Legal.{FirstBadLines};
-ghost use Rattle.journal_terms.specs.Growing.{BeginningsAreLegal, HistoriesGrow, JournalsGrow};
+ghost use Rattle.journal_terms.specs.Growing.{BeginningsAreLegal, HistoriesGrow, JournalsGrow, WhatSuits};
 ghost use Rattle.journal_terms.specs.Strict.{LinesAreRead};
 
 /// Reading the text of a journal gives the journal back, whatever numbers below 2^64 and whatever calls it has,
@@ -60,4 +60,9 @@ pub fn beginnings_are_legal_law()
 /// end stands nothing.
 pub fn journals_grow_law()
     ensures { JournalsGrow }
+{}
+
+/// Which further record, and which further sight, leaves a legal journal legal, each by itself; a strict reading reads them all.
+pub fn what_suits_law()
+    ensures { WhatSuits }
 {}
