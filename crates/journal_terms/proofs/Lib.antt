@@ -11,3 +11,4 @@ pub mod StrictLines
 pub mod Histories
 pub mod Grown
 pub mod Suits
+pub mod LegalRows

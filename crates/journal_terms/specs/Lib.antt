@@ -5,3 +5,4 @@ pub mod Worked
 pub mod Legal
 pub mod Strict
 pub mod Growing
+pub mod LegalRows

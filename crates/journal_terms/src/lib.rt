@@ -8,7 +8,10 @@ ghost use Rattle.journal_terms.specs.Laws.{TextReadsBack, OneTextOneJournal, Jou
 ghost use Rattle.journal_terms.specs.Worked.{WorkedJournals, WrongJournals};
 ghost use Rattle.journal_terms.specs.Legal.{FirstBadLines};
 ghost use Rattle.journal_terms.specs.Growing.{BeginningsAreLegal, HistoriesGrow, JournalsGrow, WhatSuits};
+ghost use Rattle.journal_terms.specs.LegalRows.{LegalJournals};
 ghost use Rattle.journal_terms.specs.Strict.{LinesAreRead};
+
+use serial_terms::laws::{calls_and_layouts_law, worked_histories_law};
 
 /// Reading the text of a journal gives the journal back, whatever numbers below 2^64 and whatever calls it has,
 /// each with a reply of its call's kind.
@@ -66,3 +69,11 @@ pub fn journals_grow_law()
 pub fn what_suits_law()
     ensures { WhatSuits }
 {}
+
+/// A legal run may have written the journal of a worked one; journals that are wrong in one point each, none.
+pub fn legal_journals_law()
+    ensures { LegalJournals }
+{
+    worked_histories_law();
+    calls_and_layouts_law();
+}
