@@ -9,7 +9,7 @@ use Rattle.std.proofs.lemmas.Slice.Eq.{bytes_eq-Decides}
 use Rattle.std.proofs.lemmas.List.Splits.{slice_split-cons_yes, slice_split-cons_no}
 use Rattle.journal_terms.specs.Reading.{cut_at}
 use Rattle.serial_terms.specs.declared.sight.SightEnd.{SightEnd}
-use Rattle.journal_terms.specs.Strict.{read_on, number, small, all_four, read_call, read_sizes, RecordHead, read_record_head, SightHead, read_sight_head}
+use Rattle.journal_terms.specs.Strict.{read_on, number, small, all_four, read_call, read_sizes, read_record_head, SightHead, read_sight_head}
 use Rattle.history_audit.specs.Heads.{are_two}
 
 pub cut_found : (c : ℕ) (bytes : List ℕ) (i : ℕ) → i < length bytes → ((k : ℕ) → k < i → eqb (get_or bytes k 0) c ≡ true → ⊥) → eqb (get_or bytes i 0) c ≡ true → cut_at c bytes ≡ take i bytes ∷ cut_at c (drop (suc i) bytes)

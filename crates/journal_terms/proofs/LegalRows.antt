@@ -1,5 +1,5 @@
 -- The worked journal is legal, and the wrong ones are not.
-use Rattle.std.proofs.Common.{◌≡◌, ℕ, ◌<◌, ◌≤◌, ◌⊎◌, inl, inr, refl, arith, rules, lit<, lit≤}
+use Rattle.std.proofs.Common.{◌≡◌, ℕ, ◌<◌, ◌≤◌, ◌⊎◌, inl, inr, arith, rules, lit<, lit≤}
 use Rattle.serial_terms.specs.RunLayout.{layout_by}
 use Rattle.serial_terms.specs.Worked.{WorkedHistories}
 use Rattle.serial_terms.specs.Wrong.{CallsAndLayouts}

@@ -1,13 +1,13 @@
 -- With which further records and sights a legal journal stays legal.
-use Rattle.std.proofs.Common.{◌≡◌, ◌↔◌, ℕ, ◌+◌, ◌^◌, ◌<◌, ◌≤◌, List, [], ◌∷◌, ◌++◌, length, sym, refl, subst, Option, Some, None, arith}
+use Rattle.std.proofs.Common.{◌≡◌, ℕ, ◌≤◌, List, [], ◌∷◌, ◌++◌, sym, subst, arith}
 use Rattle.serial_terms.specs.declared.call.Call.{Call}
 use Rattle.serial_terms.specs.declared.call.Call.TheVariants.{MapGet, MapPut, MapRemove, MapPutIfAbsent, Enqueue, Dequeue, QueueLen, Take, Give, Append, AppendPlaced, LogRead, LogLen, CellGet, CellPut}
 use Rattle.serial_terms.specs.declared.call.Done.{Done}
 use Rattle.serial_terms.specs.declared.sight.SightEnd.{SightEnd}
 use Rattle.serial_terms.specs.declared.sight.SightEnd.TheVariants.{Aborted, Refused, Full, Child}
-use Rattle.serial_terms.specs.Entries.{Entry, Each, OrderedBy, by_caller}
+use Rattle.serial_terms.specs.Entries.{Entry, Each}
 use Rattle.serial_terms.specs.Facts.{each_append}
-use Rattle.serial_terms.specs.Histories.{IsLegalRun, IsLegalHistory}
+use Rattle.serial_terms.specs.Histories.{IsLegalHistory}
 use Rattle.serial_terms.specs.Ranges.{IsCallOf, AreCallsOf, BelowCapacity}
 use Rattle.serial_terms.specs.RunLayout.{layout_by}
 use Rattle.serial_terms.specs.Serial.{State}
@@ -15,7 +15,7 @@ use Rattle.serial_terms.specs.Sights.{Seen, AreSightsOf, IsSeenBefore, IsConsist
 use Rattle.journal_terms.specs.Growing.{with_record, with_sight, SuitsAsRecord, SuitsAsSight, WhatSuits}
 use Rattle.journal_terms.specs.Laws.{IsWritable, IsWritableEntry, IsWritableSight, HasShortEnd}
 use Rattle.journal_terms.specs.Legal.{IsRecordIn, IsSightIn, IsEndIn, IsLegalJournal, layout_of, start_of}
-use Rattle.journal_terms.specs.Strict.{structure_of, IsSmall, IsReadable, HasSmallEnd, IsReadableRecord, IsReadableSight}
+use Rattle.journal_terms.specs.Strict.{structure_of, IsSmall, IsReadable, HasSmallEnd}
 use Rattle.journal_terms.specs.Text.{Journal, sights_in}
 use Rattle.journal_terms.proofs.Histories.{each_back, ordered_more, ordered_last, histories_grow}
 

@@ -1,5 +1,5 @@
 -- A worked journal that a legal run may have written, and journals that are wrong in one point each, which none may.
-use Rattle.std.specs.Prelude.{ℕ, List, [], ◌∷◌, Option, Some, None}
+use Rattle.std.specs.Prelude.{ℕ, List, [], ◌∷◌, Some, None}
 use Rattle.serial_terms.specs.declared.call.Call.TheVariants.{Enqueue}
 use Rattle.serial_terms.specs.declared.call.Reply.TheVariants.{Nothing}
 use Rattle.serial_terms.specs.declared.call.Done.{Done}
