@@ -1,5 +1,6 @@
 pub mod Words
 pub mod Index
+pub mod Kept
 pub mod Places
 pub mod PartLists
 pub mod LaidOver

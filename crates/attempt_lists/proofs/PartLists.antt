@@ -7,7 +7,7 @@ use Rattle.std.proofs.lemmas.List.Sums.{fails_before_first}
 use Rattle.std.proofs.Math.Decide.{ℕ_discrete}
 use Rattle.std.proofs.lemmas.Bool.Decides.{nat_tests}
 use Rattle.std.proofs.lemmas.Grind.{common_steps}
-use Rattle.attempt_lists.specs.Parts.{Waiting, waiting_of, marked_of, ChangesOnly, marks, restores}
+use Rattle.attempt_lists.specs.Parts.{Waiting, waiting_of, marked_of, ChangesOnly, marks, restores, clears}
 
 -- a part with nothing, which stands for what is past the end of a list
 abbrev pub no_additions : Waiting
@@ -100,7 +100,7 @@ changes_push ps p none marks = record {
   marked = λ q. grind (arith, nat_tests, (at_push ps p none q).1, (at_none ps p.part none).1, marks);
 }
 
--- all parts marked, and all restored
+-- all parts marked, all restored, and all cleared
 pub marks_all : (ps : List Waiting) (q : ℕ) → (waiting_of (map marks ps) q ≡ waiting_of ps q) × (marked_of (map marks ps) q ≡ waiting_of ps q)
 marks_all [] q = (refl, refl)
 marks_all (p ∷ ps) q =
@@ -111,6 +111,12 @@ pub restores_all : (ps : List Waiting) (q : ℕ) → (waiting_of (map restores p
 restores_all [] q = (refl, refl)
 restores_all (p ∷ ps) q =
     let rest = restores_all ps q in
+    (grind (arith, nat_tests, rest.0), grind (arith, nat_tests, rest.1))
+
+pub clears_all : (ps : List Waiting) (q : ℕ) → (waiting_of (map clears ps) q ≡ []) × (marked_of (map clears ps) q ≡ [])
+clears_all [] q = (refl, refl)
+clears_all (p ∷ ps) q =
+    let rest = clears_all ps q in
     (grind (arith, nat_tests, rest.0), grind (arith, nat_tests, rest.1))
 
 -- what consuming from the first entry of a part does to the list

@@ -1,6 +1,5 @@
 -- Lists of cells, each with a word: what a cell has, and the two orders in which such lists are kept.
-use Rattle.std.specs.Prelude.{◌≡◌, ℕ, ◌<◌, ◌≤◌, ◌≢◌, List, length, nat_eq, slice_index_or, Option, IfSome, fold}
-use Rattle.std.specs.declared.option.Option.TheVariants.{Some}
+use Rattle.std.specs.Prelude.{◌≡◌, ℕ, ◌<◌, ◌≤◌, ◌≢◌, List, length, nat_eq, slice_index_or, Option, fold}
 use Rattle.std.specs.Ordering.{nat_cmp}
 use Rattle.std.specs.Map.{lookup}
 use Rattle.std.specs.BTreeMap.{insert_entry}
@@ -41,11 +40,6 @@ laid_over lower upper = fold (λ entries e. put entries e.0 e.1) lower upper
 pub record Listed : Type 0 where
   pub entries : Entries
   pub reserved : ℕ
-
--- the index has each entry's place under its cell, and no other cell
-pub record IsIndex (places : ℕ → Option ℕ) (entries : Entries) : Type 0 where
-  pub found : (i : ℕ) → i < length entries → places (cell_at entries i) ≡ Some i
-  pub listed : (cell : ℕ) → IfSome (places cell) (λ i. (i < length entries) × (cell_at entries i ≡ cell))
 
 -- the entry at the place is of the cell
 pub record IsPlaceOf (entries : Entries) (cell place : ℕ) : Type 0 where

@@ -1,4 +1,5 @@
 pub mod Cells
+pub mod Index
 pub mod Levels
 pub mod Observed
 pub mod Parts

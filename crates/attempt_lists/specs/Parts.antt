@@ -23,9 +23,12 @@ pub record ChangesOnly (old new : List Waiting) (part : ℕ) (waiting : List ℕ
   pub others : (q : ℕ) → q ≢ part → waiting_of new q ≡ waiting_of old q
   pub marked : (q : ℕ) → marked_of new q ≡ marked_of old q
 
--- the part with what waits marked, and the part with what is marked waiting
+-- the part with what waits marked, with what is marked waiting, and with neither
 abbrev pub marks : Waiting → Waiting
 marks p = record p { marked = p.waiting }
 
 abbrev pub restores : Waiting → Waiting
 restores p = record p { waiting = p.marked }
+
+abbrev pub clears : Waiting → Waiting
+clears p = record p { waiting = []; marked = [] }

@@ -1,6 +1,6 @@
 //! What an attempt adds to parts of the structures when it commits.
 ghost use Rattle.std.specs.Prelude.{◌≡◌, ℕ, ◌+◌, ◌<◌, ◌≤◌, [], ◌∷◌, ◌++◌, length, slice_index, map, position, nat_eq, IsTrue, ◌↔◌, OnOk, OnErr, MatchOption};
-ghost use Rattle.attempt_lists.specs.Parts.{waiting_of, marked_of, ChangesOnly, marks, restores};
+ghost use Rattle.attempt_lists.specs.Parts.{waiting_of, marked_of, ChangesOnly, marks, restores, clears};
 
 use crate::part::Part;
 use std::alloc::{AllocError, Global};
@@ -112,6 +112,14 @@ impl Additions {
         restore_all(&mut self.parts);
     }
 
+    /// Lets nothing wait and nothing be marked, and keeps the room of each part. Takes no memory.
+    pub fn clear(&mut self)
+        ensures waiting { (part : ℕ) → waiting_of self.new part ≡ [] }
+        ensures marked { (part : ℕ) → marked_of self.new part ≡ [] }
+    {
+        clear_all(&mut self.parts);
+    }
+
     // Where the part is.
     fn place(&self, part: u32) -> Option<usize>
         ensures { result ≡ position (λ p. nat_eq p.part part) self.now }
@@ -133,5 +141,13 @@ fn restore_all(parts: &mut [Part])
 {
     for part in parts.iter_mut() {
         part.back_to_mark();
+    }
+}
+
+fn clear_all(parts: &mut [Part])
+    ensures { parts.new ≡ map clears parts.old }
+{
+    for part in parts.iter_mut() {
+        part.clear();
     }
 }

@@ -2,8 +2,9 @@
 ghost use Rattle.std.specs.Prelude.{◌≡◌, ℕ, ◌+◌, ◌<◌, ◌≤◌, [], ◌∷◌, ◌++◌, length, take, Some, IfSome, OnOk, OnErr, IfSome, MatchOption};
 ghost use Rattle.attempt_lists.specs.Cells.{word_at, word_of, cell_at, NoCellTwice, Listed};
 
+use crate::cell_index::CellIndex;
+use crate::filter::{passes, with_cell};
 use std::alloc::{AllocError, Global};
-use std::collections::HashMap;
 use std::marker::Model;
 
 /// Cells in the order in which they came, none twice, each with a word.
@@ -12,21 +13,23 @@ use std::marker::Model;
 #[derive(Drop)]
 pub struct CellList {
     entries: Vec<(u32, u64)>,
-    places: HashMap<u32, usize>,
+    filter: u64,
+    index: CellIndex,
     reserved: usize,
 }
 
 impl Model for CellList {
-    ghost use Rattle.std.specs.Prelude.{◌≡◌, ◌+◌, ◌≤◌, nat_eq};
+    ghost use Rattle.std.specs.Prelude.{◌+◌, ◌≤◌};
     ghost use Rattle.std.specs.Vec.{vec_len, vec_capacity};
-    ghost use Rattle.std.specs.HashMap.{get, spare};
-    ghost use Rattle.attempt_lists.specs.Cells.{Listed, IsIndex};
+    ghost use Rattle.std.specs.HashMap.{spare};
+    ghost use Rattle.attempt_lists.specs.Cells.{Listed, NoCellTwice};
+    ghost use Rattle.attempt_lists.specs.Index.{AllPass, Indexes, owed};
 
     ghost Value = { Listed };
 
     ghost view = { λ a. record { entries = a.entries.items; reserved = a.reserved } };
 
-    ghost invariant = { λ a. IsIndex (get nat_eq a.places) a.entries.items × (vec_len a.entries + a.reserved ≤ vec_capacity a.entries) × (a.reserved ≤ spare a.places) };
+    ghost invariant = { λ a. NoCellTwice a.entries.items × AllPass a.filter a.entries.items × Indexes a.index a.entries.items × (vec_len a.entries + a.reserved ≤ vec_capacity a.entries) × (owed a.index.active (vec_len a.entries) a.reserved ≤ spare a.index.places) };
 }
 
 impl CellList {
@@ -37,7 +40,8 @@ impl CellList {
     {
         Self {
             entries: Vec::new(alloc),
-            places: HashMap::new(alloc),
+            filter: 0,
+            index: CellIndex::new(alloc),
             reserved: 0,
         }
     }
@@ -63,13 +67,10 @@ impl CellList {
     pub fn place(&self, cell: u32) -> Option<usize>
         ensures { MatchOption result (word_at self.now.entries cell ≡ None) (λ i. (i < length self.now.entries) × (cell_at self.now.entries i ≡ cell) × (word_at self.now.entries cell ≡ Some (word_of self.now.entries i))) }
     {
-        // Most attempts ask before they have anything: no cell is hashed then.
-        if self.entries.is_empty() {
-            return None;
-        }
-        match self.places.get(&cell) {
-            Some(place) => Some(*place),
-            None => None,
+        if passes(self.filter, cell) {
+            self.index.place(&self.entries, cell)
+        } else {
+            None
         }
     }
 
@@ -79,6 +80,13 @@ impl CellList {
         ensures once { NoCellTwice self.now.entries }
     {
         &self.entries
+    }
+
+    /// No cell is ever in the list twice.
+    pub fn once_law(&self)
+        ensures { NoCellTwice self.now.entries }
+    {
+        self.as_slice();
     }
 
     /// How many places are reserved.
@@ -98,7 +106,7 @@ impl CellList {
             return Err(AllocError);
         };
         self.entries.reserve(reserved)?;
-        self.places.reserve(reserved)?;
+        self.index.reserve(self.entries.len(), reserved)?;
         self.reserved = reserved;
         Ok(())
     }
@@ -121,13 +129,9 @@ impl CellList {
         ensures entries { self.new.entries ≡ self.old.entries ++ (cell, word) ∷ [] }
         ensures reserved { self.new.reserved + 1 ≡ self.old.reserved }
     {
-        let place = self.entries.len();
-        let Ok(()) = self.entries.push((cell, word)) else {
-            unreachable!()
-        };
-        let Ok(_) = self.places.insert(cell, place) else {
-            unreachable!()
-        };
+        self.index.push(&self.entries, cell);
+        self.filter = with_cell(self.filter, cell);
+        self.entries.push_reserved((cell, word));
         self.reserved -= 1;
     }
 
@@ -138,7 +142,6 @@ impl CellList {
         ensures reserved { self.new.reserved ≡ self.old.reserved }
     {
         let last = self.entries.pop()?;
-        self.places.remove(&last.0);
         Some(last)
     }
 
@@ -147,9 +150,18 @@ impl CellList {
         ensures entries { self.new.entries ≡ take len self.old.entries }
         ensures reserved { self.new.reserved ≡ self.old.reserved }
     {
-        while self.len() > len {
-            self.pop();
-        }
+        self.entries.truncate(len);
+    }
+
+    /// Drops all cells and takes back what was reserved, and keeps the room for the next ones. Takes no memory.
+    pub fn clear(&mut self)
+        ensures entries { self.new.entries ≡ [] }
+        ensures reserved { self.new.reserved ≡ 0 }
+    {
+        self.entries.clear();
+        self.filter = 0;
+        self.index.clear();
+        self.reserved = 0;
     }
 
     /// The cells with their words, in the order in which they came.

@@ -1,16 +1,18 @@
 //! Cells in ascending order, each with a word.
-ghost use Rattle.std.specs.Prelude.{◌≡◌, ℕ, ◌+◌, ◌<◌, ◌≤◌, [], ◌∷◌, ◌++◌, length, nat_eq, Some, IsSome, IsNone, is_some, IsOk, IsErr, is_ok, if◌then◌else◌, OnOk, OnErr, IfOk, IfErr};
+ghost use Rattle.std.specs.Prelude.{◌≡◌, ℕ, ◌+◌, ◌<◌, ◌≤◌, [], ◌∷◌, ◌++◌, length, nat_eq, Some, IsSome, IsNone, is_some, IsOk, IsErr, is_ok, IsTrue, if◌then◌else◌, OnOk, OnErr, IfOk, IfErr};
 ghost use Rattle.attempt_lists.specs.Cells.{word_at, put, IsAscending, Listed, IsPlaceOf, IsGapFor};
 
+use crate::filter::{passes, with_cell};
 use std::alloc::{AllocError, Global};
 use std::marker::Model;
 
 /// Cells in ascending order, none twice, each with a word.
 ///
-/// A cell is found by binary search. Places are reserved by number, and a call that fills one takes no memory.
+/// A cell is found by binary search, and one above all others without. Places are reserved by number, and a call that fills one takes no memory.
 #[derive(Drop)]
 pub struct CellMap {
     entries: Vec<(u32, u64)>,
+    filter: u64,
     reserved: usize,
 }
 
@@ -18,12 +20,13 @@ impl Model for CellMap {
     ghost use Rattle.std.specs.Prelude.{◌+◌, ◌≤◌};
     ghost use Rattle.std.specs.Vec.{vec_len, vec_capacity};
     ghost use Rattle.attempt_lists.specs.Cells.{Listed, IsAscending};
+    ghost use Rattle.attempt_lists.specs.Index.{AllPass};
 
     ghost Value = { Listed };
 
     ghost view = { λ a. record { entries = a.entries.items; reserved = a.reserved } };
 
-    ghost invariant = { λ a. IsAscending a.entries.items × (vec_len a.entries + a.reserved ≤ vec_capacity a.entries) };
+    ghost invariant = { λ a. IsAscending a.entries.items × AllPass a.filter a.entries.items × (vec_len a.entries + a.reserved ≤ vec_capacity a.entries) };
 }
 
 impl CellMap {
@@ -34,6 +37,7 @@ impl CellMap {
     {
         Self {
             entries: Vec::new(alloc),
+            filter: 0,
             reserved: 0,
         }
     }
@@ -47,6 +51,17 @@ impl CellMap {
 
     /// The word of a cell, or `None` where it has none.
     pub fn get(&self, cell: u32) -> Option<u64>
+        ensures { result ≡ word_at self.now.entries cell }
+    {
+        if passes(self.filter, cell) {
+            self.find(cell)
+        } else {
+            None
+        }
+    }
+
+    // The same for a cell that passes the filter.
+    fn find(&self, cell: u32) -> Option<u64>
         ensures { result ≡ word_at self.now.entries cell }
     {
         match self.search(cell) {
@@ -111,6 +126,7 @@ impl CellMap {
         ensures reserved { self.new.reserved ≡ self.old.reserved }
     {
         self.entries.clear();
+        self.filter = 0;
     }
 
     /// The cells with their words, in ascending order of cells.
@@ -123,6 +139,28 @@ impl CellMap {
 
     // Where the cell is, or where it would go.
     fn search(&self, cell: u32) -> Result<usize, usize>
+        ensures found { IfOk result (IsPlaceOf self.now.entries cell) }
+        ensures absent { IfErr result (IsGapFor self.now.entries cell) }
+        ensures variant { is_ok result ≡ is_some (word_at self.now.entries cell) }
+    {
+        if self.ends_below(cell) {
+            return Err(self.entries.len());
+        }
+        self.search_within(cell)
+    }
+
+    // Whether the cell goes to the end.
+    fn ends_below(&self, cell: u32) -> bool
+        ensures { IsTrue result → IsGapFor self.now.entries cell (length self.now.entries) }
+    {
+        match self.entries.last() {
+            Some(last) => last.0 < cell,
+            None => true,
+        }
+    }
+
+    // The same for a cell that may stand anywhere.
+    fn search_within(&self, cell: u32) -> Result<usize, usize>
         ensures found { IfOk result (IsPlaceOf self.now.entries cell) }
         ensures absent { IfErr result (IsGapFor self.now.entries cell) }
         ensures variant { is_ok result ≡ is_some (word_at self.now.entries cell) }
@@ -143,10 +181,11 @@ impl CellMap {
         match place {
             Ok(place) => self.entries[place] = (cell, word),
             Err(place) => {
+                self.filter = with_cell(self.filter, cell);
+                self.reserved -= 1;
                 let Ok(()) = self.entries.insert(place, (cell, word)) else {
                     unreachable!()
                 };
-                self.reserved -= 1;
             }
         }
     }

@@ -5,8 +5,11 @@
 #![tactic(auto)]
 
 mod additions;
+mod cell_index;
 mod cell_list;
 mod cell_map;
+mod filter;
+mod laws;
 mod part;
 mod read_set;
 mod write_set;
@@ -14,6 +17,7 @@ mod write_set;
 pub use additions::Additions;
 pub use cell_list::CellList;
 pub use cell_map::CellMap;
+pub use laws::put_law;
 pub use read_set::{Observation, ReadSet};
 pub use write_set::WriteSet;
 

@@ -92,4 +92,14 @@ impl Part {
         self.values.truncate(self.marked);
         self.consumed = self.marked_consumed;
     }
+
+    // Nothing waits and nothing is marked.
+    pub(crate) fn clear(&mut self)
+        ensures { self.new ≡ record self.old { waiting = []; marked = [] } }
+    {
+        self.values.clear();
+        self.consumed = 0;
+        self.marked = 0;
+        self.marked_consumed = 0;
+    }
 }

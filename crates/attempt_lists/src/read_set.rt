@@ -94,6 +94,15 @@ impl ReadSet {
         self.observations.as_slice()
     }
 
+    /// No cell is ever observed twice, and each observation has its version.
+    pub fn once_law(&self)
+        ensures once { NoCellTwice self.now.observations }
+        ensures versions { length self.now.versions ≡ length self.now.observations }
+    {
+        self.as_slice();
+        self.len();
+    }
+
     /// Reserves places for `more` observations beside those reserved already.
     pub fn reserve(&mut self, more: usize) -> Result<(), AllocError>
         ensures observations { self.new.observations ≡ self.old.observations }
@@ -129,9 +138,7 @@ impl ReadSet {
     {
         self.observations
             .push_reserved(observation.cell, observation.value);
-        let Ok(()) = self.versions.push(observation.version) else {
-            unreachable!()
-        };
+        self.versions.push_reserved(observation.version);
     }
 
     /// Drops all observations but the first `len`. Takes no memory.
@@ -142,6 +149,16 @@ impl ReadSet {
     {
         self.observations.truncate(len);
         self.versions.truncate(len);
+    }
+
+    /// Drops all observations and takes back what was reserved, and keeps the room for the next ones. Takes no memory.
+    pub fn clear(&mut self)
+        ensures observations { self.new.observations ≡ [] }
+        ensures versions { self.new.versions ≡ [] }
+        ensures reserved { self.new.reserved ≡ 0 }
+    {
+        self.observations.clear();
+        self.versions.clear();
     }
 
     /// The cells with their values, in the order in which they were observed.

@@ -68,6 +68,58 @@ fn reserved_places_are_filled_without_memory(rt: HostRuntime) -> Result<(), Fail
 }
 
 #[test]
+fn cleared_lists_are_as_new(rt: HostRuntime) -> Result<(), Fail> {
+    let alloc = rt.alloc();
+    let mut reads = observe_all(alloc)?;
+    reads.clear();
+    assert_eq!(rt; (reads.len(), reads.get(7_919)), (0, None));
+    reads.push(Observation {
+        cell: 7_919,
+        value: 1,
+        version: 2,
+    })?;
+    assert_eq!(rt;
+        reads.get(7_919).map(|o| (o.value, o.version)),
+        Some((1, 2))
+    );
+    let mut writes = write_all(alloc)?;
+    writes.clear();
+    assert!(rt; writes.is_empty());
+    writes.put(5, 50)?;
+    assert_eq!(rt; (writes.get(5), writes.get(4)), (Some(50), None));
+    let mut additions = Additions::new(alloc);
+    additions.later(alloc, 1, 10)?;
+    additions.mark();
+    additions.clear();
+    additions.later(alloc, 1, 11)?;
+    assert_eq!(rt; additions.take_later(1), Some(11));
+    additions.back_to_mark();
+    assert!(rt; additions.is_empty());
+    Ok(())
+}
+
+// A cell that left a long list has its place no more, though others came since.
+#[test]
+fn cells_that_left_are_not_found(rt: HostRuntime) -> Result<(), Fail> {
+    let mut held = CellList::new(rt.alloc());
+    held.reserve(40)?;
+    for cell in 0..30 {
+        if held.get(cell).is_none() {
+            held.push(cell, 1)?;
+        }
+    }
+    held.truncate(20);
+    assert_eq!(rt; (held.get(19), held.get(20)), (Some(1), None));
+    if held.get(29).is_none() {
+        held.push(29, 2)?;
+    }
+    assert_eq!(rt; (held.place(29), held.get(20)), (Some(20), None));
+    held.clear();
+    assert_eq!(rt; (held.get(29), held.reserved()), (None, 0));
+    Ok(())
+}
+
+#[test]
 fn cells_come_off_the_end(rt: HostRuntime) -> Result<(), Fail> {
     let mut held = CellList::new(rt.alloc());
     held.push(8, 1)?;

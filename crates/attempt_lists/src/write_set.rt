@@ -77,6 +77,22 @@ impl WriteSet {
         self.child.as_slice()
     }
 
+    /// The writes of each level are always in ascending order of cells.
+    pub fn ascending_law(&self)
+        ensures parent { IsAscending self.now.parent }
+        ensures child { IsAscending self.now.child }
+    {
+        self.parent();
+        self.child();
+    }
+
+    /// How many cells the parent writes.
+    pub fn parent_len(&self) -> usize
+        ensures { result ≡ length self.now.parent }
+    {
+        self.parent.len()
+    }
+
     /// Reserves places for `more` writes of the parent beside those reserved already.
     pub fn reserve(&mut self, more: usize) -> Result<(), AllocError>
         ensures parent { self.new.parent ≡ self.old.parent }
@@ -152,6 +168,17 @@ impl WriteSet {
         ensures reserved { self.new.reserved ≡ self.old.reserved }
     {
         self.child.clear();
+    }
+
+    /// Drops all writes and takes back what was reserved, and keeps the room for the next ones. Takes no memory.
+    pub fn clear(&mut self)
+        ensures parent { self.new.parent ≡ [] }
+        ensures child { self.new.child ≡ [] }
+        ensures reserved { self.new.reserved ≡ 0 }
+    {
+        self.parent.clear();
+        self.child.clear();
+        self.reserved = 0;
     }
 
     /// The parent's writes, in ascending order of cells.

@@ -1,12 +1,19 @@
-use Rattle.std.proofs.Common.{◌≡◌, length, ap, rules, arith, None}
+use Rattle.std.proofs.Common.{◌≡◌, ◌+◌, ◌-◌, ap, arith, None}
 use Rattle.attempt_lists.specs.Cells.{Listed, word_at}
-use Rattle.attempt_lists.proofs.Index.{pushed}
+use Rattle.attempt_lists.proofs.Kept.{once_pushed, pass_pushed}
 use Rattle.attempt_lists.proofs.cell_list.CellList.push_reserved.Goals as goal
 
--- the index has the new cell at the end of the list, and both have used one reserved place
+-- the filter and the index have the new cell, and one reserved place is used
 pub invariant_of-self : goal.invariant_of-self
 invariant_of-self c =
-    let place : c.len-place.result ≡ length c.self.inside.entries.items = search rules in
     let shown = ap (λ (l : Listed). l.entries) c.self.view_is in
+    let promised = ap (λ (l : Listed). l.reserved) c.self.view_is in
     let absent : word_at c.self.inside.entries.items c.args.cell ≡ None = rw shown c.requires.absent in
-    (rw c.in-Ok.ensures.items (pushed _ _ c.self.invariant.0 _ _ _ absent (λ q. rw (← place) (c.in-Ok-insert.ensures.updates.0 q))), omega arith, omega arith)
+    let back : c.self.inside.reserved - 1 + 1 ≡ c.self.inside.reserved = omega (arith, c.requires.room, promised) in
+    let room = c.push.ensures.room (c.self.inside.reserved - 1) (rw (back, c.deref.ensures.len) c.self.invariant.4) in (
+      rw c.push_reserved.ensures.items (once_pushed _ _ c.args.word c.self.invariant.0 absent),
+      rw c.push_reserved.ensures.items (pass_pushed _ _ c.args.word _ _ c.self.invariant.1 c.with_cell-self-inside.ensures.added c.with_cell-self-inside.ensures.kept),
+      rw (c.push_reserved.ensures.items, ← c.deref.ensures.value) (c.push.ensures.indexes c.args.word),
+      omega (arith, c.push_reserved.ensures.len, c.push_reserved.ensures.capacity, c.self.invariant.3, c.requires.room, promised),
+      rw (c.push_reserved.ensures.len, ← c.deref.ensures.len) room,
+    )

@@ -1,11 +1,7 @@
-use Rattle.std.proofs.Common.{rules}
-use Rattle.std.proofs.lemmas.List.Sorted.{answers_always}
-use Rattle.attempt_lists.proofs.Places.{searched}
+use Rattle.std.proofs.Common.{ap, is_some, refl, sym}
+use Rattle.attempt_lists.proofs.Places.{word_in_gap}
 use Rattle.attempt_lists.proofs.cell_map.CellMap.search.Goals as goal
 
--- the closure gives an entry's cell, and the slice is the map's entries
-pub returns : goal.returns
-returns c =
-    let facts = c.binary_search_by_key.ensures in
-    let by_cell = facts.position (λ e. e.0) (answers_always _ _ _ (λ f a r g called. search rules)) in
-    rw (← c.self.view_is, ← c.deref.ensures.value) (searched _ (rw c.deref.ensures.value c.self.invariant.0) c.args.cell _ facts.bound by_cell)
+-- a cell above all has no word
+pub returns-then-ends_below-clause-variant : goal.returns-then-ends_below-clause-variant
+returns-then-ends_below-clause-variant c = sym (ap is_some (word_in_gap _ _ _ (c.if-ends_below.ensures refl)))

@@ -1,0 +1,5 @@
+use Rattle.attempt_lists.proofs.LaidOver.{word_at-put}
+use Rattle.attempt_lists.proofs.laws.put_law.Goals as goal
+
+pub returns : goal.returns
+returns c = word_at-put
