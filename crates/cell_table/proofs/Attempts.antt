@@ -1,5 +1,5 @@
 -- What the steps of an attempt make of a pass.
-use Rattle.std.proofs.Common.{◌≡◌, ◌≢◌, ℕ, ◌+◌, ◌-◌, ◌*◌, ◌^◌, ◌<◌, ◌≤◌, Bool, true, false, cond, List, [], ◌∷◌, ◌++◌, length, inl, inr, ⊎_elim, sym, refl, ap, ◌∙◌, subst, arith, eq-eqb, ne_eqb, Some, None, Option, reverse, ◌==◌}
+use Rattle.std.proofs.Common.{◌≡◌, ◌≢◌, ℕ, ◌+◌, ◌-◌, ◌*◌, ◌^◌, ◌<◌, ◌≤◌, Bool, true, false, cond, List, [], ◌∷◌, ◌++◌, length, inl, inr, ⊎_elim, sym, refl, ap, ◌∙◌, subst, arith, eq-eqb, ne_eqb, Some, None, Option, is_some, reverse, ◌==◌}
 use mathlib.Core.Logic.{dite}
 use mathlib.Core.List.{reverse-cons}
 use native.Mathlib.Decide.{ℕ_discrete}
@@ -237,16 +237,16 @@ module _ {D : Type 0} where
   note_each P place writer r [] p f = tt
   note_each P place writer r (b ∷ bs) p f = (each_append P b.entries (record { place = place; writer = writer; content = r } ∷ []) f.0 (p, tt), f.1)
 
-  places_more : (low s place : ℕ) (es : List (Noted D)) (e : Noted D) → low ≤ s → Each (λ e. e.place ≤ s) es → PlacesFrom low es → s ≤ e.place → PlacesFrom low (es ++ e ∷ [])
-  places_more low s place [] e l f g m = (omega arith, tt)
-  places_more low s place (x ∷ xs) e l f g m = (g.0, places_more x.place s place xs e f.0 f.1 g.1 m)
+  places_more : (low s place : ℕ) (es : List (Noted D)) (e : Noted D) → low ≤ s → Each (λ e. e.place ≤ s) es → PlacesFrom low es → s ≤ e.place → (e.writer ≡ true → s < e.place) → PlacesFrom low (es ++ e ∷ [])
+  places_more low s place [] e l f g m above = (omega arith, (λ w. let a = above w in omega arith), tt)
+  places_more low s place (x ∷ xs) e l f g m above = (g.0, g.1, places_more x.place s place xs e f.0 f.1 g.2 m above)
 
-  pub note_ascends : (s place : ℕ) (writer : Bool) (r : Record D) (bs : List (NotedBook D)) → Each (λ b. Each (λ e. e.place ≤ s) b.entries) bs → Each (λ b. PlacesFrom 0 b.entries) bs → s ≤ place → Each (λ b. PlacesFrom 0 b.entries) (note place writer r bs)
-  note_ascends s place writer r [] f g l = tt
-  note_ascends s place writer r (b ∷ bs) f g l = (places_more 0 s place b.entries (record { place = place; writer = writer; content = r }) (omega arith) f.0 g.0 l, g.1)
+  pub note_ascends : (s place : ℕ) (writer : Bool) (r : Record D) (bs : List (NotedBook D)) → Each (λ b. Each (λ e. e.place ≤ s) b.entries) bs → Each (λ b. PlacesFrom 0 b.entries) bs → s ≤ place → (writer ≡ true → s < place) → Each (λ b. PlacesFrom 0 b.entries) (note place writer r bs)
+  note_ascends s place writer r [] f g l above = tt
+  note_ascends s place writer r (b ∷ bs) f g l above = (places_more 0 s place b.entries (record { place = place; writer = writer; content = r }) (omega arith) f.0 g.0 l above, g.1)
 
 module _ {M D : Type 0} (lawful : M → List ℕ → Type 0) (explains : M → List (ℕ × ℕ) → List (ℕ × ℕ) → List D → Type 0) where
-  pub first_pass : (p : PassState M D) (w : View M D) (t : TableId) (u c x reserved : ℕ) (r : Record D) (books : List (NotedBook D)) → IsPass lawful explains p → p.seen ≤ u → u ≤ p.view.known → writes_to r.writes c ≡ true → w ≡ first_put p.view u r c x → books ≡ note u true r p.books → LegalNow lawful explains w
+  pub first_pass : (p : PassState M D) (w : View M D) (t : TableId) (u c x reserved : ℕ) (r : Record D) (books : List (NotedBook D)) → IsPass lawful explains p → p.seen < u → u ≤ p.view.known → writes_to r.writes c ≡ true → w ≡ first_put p.view u r c x → books ≡ note u true r p.books → LegalNow lawful explains w
       → IsPass lawful explains (record p { view = w; table = t; books = books; seen = u; reserved = reserved; plan = None })
   first_pass p w t u c x reserved r books f low known touched is new legal = let g : Grows p.view w = subst (λ (z : View M D). Grows p.view z) (sym is) (grows_first_put p.view u r c x) in
       let P : (Noted D → Type 0) → List (NotedBook D) → Type 0 = λ Q bs. Each (λ b. Each Q b.entries) bs in record {
@@ -255,7 +255,7 @@ module _ {M D : Type 0} (lawful : M → List ℕ → Type 0) (explains : M → L
         seen = (let b = g.known in omega arith);
         drawn = λ z e. let bad : Decided u r (c ∷ []) ≡ Drawn z = sym (ap (λ (y : View M D). y.stage) is) ∙ e in absurd (cc);
         places = subst (P (λ e. e.place ≤ u)) (sym new) (note_each _ u true r p.books (omega arith) (each_map _ _ (λ b h. each_map _ _ (λ e m. omega arith) b.entries h) p.books f.places));
-        ascending = subst (Each (λ b. PlacesFrom 0 b.entries)) (sym new) (note_ascends p.seen u true r p.books f.places f.ascending low);
+        ascending = subst (Each (λ b. PlacesFrom 0 b.entries)) (sym new) (note_ascends p.seen u true r p.books f.places f.ascending (omega arith) (λ _. low));
         readers = subst (P (IsReader explains w)) (sym new) (note_each (IsReader explains w) u true r p.books (λ no. absurd (cc)) (readers_on explains p.view w g p.books f.readers));
         planned = tt;
         written = subst AreWritten (sym (ap (λ (z : View M D). z.stage) is)) (touched, tt);
@@ -325,6 +325,10 @@ module _ {M D : Type 0} where
   pub free_now : (p q : PassState M D) (c : ℕ) → p ≡ q → has c (cells_of p.view.held) ≡ false → has c (cells_of q.view.held) ≡ false
   free_now p q c e h = subst (λ (z : PassState M D). has c (cells_of z.view.held) ≡ false) e h
 
+pub none_from : {A : Type 0} (o : Option A) → is_some o ≡ false → o ≡ None
+none_from None e = refl
+none_from (Some x) e = absurd (cc)
+
 module _ {D : Type 0} where
   pub plan_gone : {M : Type 0} (v : View M D) (hs hs' : List HeldCell) (c : ℕ) (slice : List HeldCell) (left : Option (Plan D)) (taken_plan old : Option (Plan D)) → pairs_of hs ≡ v.held → hs' ≡ without_held c hs → slice ≡ hs' → plan_of left ≡ plan_after (pairs_of slice) (plan_of taken_plan) → taken_plan ≡ old
       → plan_of left ≡ plan_after (without c v.held) (plan_of old)
@@ -370,7 +374,7 @@ module _ {M D : Type 0} (lawful : M → List ℕ → Type 0) (explains : M → L
   pub put_first_pass : (p : PassState M D) (w : View M D) (t : TableId) (u c x reserved : ℕ) (r : Record D) (books : List (NotedBook D)) (left : Option (Record D)) → IsPass lawful explains p → p.view.stage ≡ Drawn u → Leaves r.writes c x → w ≡ first_put p.view u r c x → books ≡ note u true r p.books → left ≡ None → LegalNow lawful explains w
       → IsPass lawful explains (record p { view = w; table = t; books = books; seen = u; reserved = reserved; plan = left })
   put_first_pass p w t u c x reserved r books left f st leaves is new gone legal = let d = f.drawn u st in let a = d.0 in
-      subst (λ (z : Option (Record D)). IsPass lawful explains (record p { view = w; table = t; books = books; seen = u; reserved = reserved; plan = z })) (sym gone) (first_pass lawful explains p w t u c x reserved r books f (omega arith) d.1 leaves.0 is new legal)
+      subst (λ (z : Option (Record D)). IsPass lawful explains (record p { view = w; table = t; books = books; seen = u; reserved = reserved; plan = z })) (sym gone) (first_pass lawful explains p w t u c x reserved r books f a d.1 leaves.0 is new legal)
 
   pub put_next_pass : (p : PassState M D) (w : View M D) (t : TableId) (c x : ℕ) (left : Option (Record D)) → IsPass lawful explains p → p.plan ≡ left → MayStore c x p.view.held p.view.stage → w ≡ next_put p.view c x → LegalNow lawful explains w → IsPass lawful explains (record p { view = w; table = t; plan = left })
   put_next_pass p w t c x left f same may is legal = subst (λ (z : Option (Record D)). IsPass lawful explains (record p { view = w; table = t; plan = z })) same (next_pass lawful explains p w t c x f may is legal)
@@ -438,7 +442,7 @@ module _ {M D : Type 0} (lawful : M → List ℕ → Type 0) (explains : M → L
         seen = high;
         drawn = λ u e. let bad : Open ≡ Drawn u = sym st ∙ e in absurd (cc);
         places = subst (P (λ e. e.place ≤ place)) (sym new) (note_each _ place false r p.books (omega arith) (each_map _ _ (λ b h. each_map _ _ (λ e m. omega arith) b.entries h) p.books f.places));
-        ascending = subst (Each (λ b. PlacesFrom 0 b.entries)) (sym new) (note_ascends p.seen place false r p.books f.places f.ascending low);
+        ascending = subst (Each (λ b. PlacesFrom 0 b.entries)) (sym new) (note_ascends p.seen place false r p.books f.places f.ascending low (λ no. absurd (cc)));
         readers = subst (P (IsReader explains p.view)) (sym new) (note_each (IsReader explains p.view) place false r p.books (λ is. (high, none, explained, stands)) f.readers);
         planned = idle_planned p (record p { seen = place; reserved = reserved; books = books }) p.plan st f.planned;
         written = f.written;

@@ -1,17 +1,14 @@
 -- What the rule says at the end.
-use Rattle.std.proofs.Common.{◌≡◌, ℕ, zero, suc, ◌+◌, ◌-◌, ◌*◌, ◌/◌, ◌<◌, ◌≤◌, true, List, [], ◌∷◌, ◌⊎◌, length, get_or, inl, inr, ⊎_elim, sym, refl, ap, ◌∙◌, subst, arith}
-use mathlib.Core.Logic.{dite}
+use Rattle.std.proofs.Common.{◌≡◌, ℕ, zero, suc, ◌+◌, ◌-◌, ◌*◌, ◌/◌, ◌^◌, ◌<◌, ◌≤◌, true, List, [], ◌∷◌, length, get_or, ⊎_elim, sym, refl, ap, ◌∙◌, subst, arith}
 use mathlib.Core.Option.{some}
-use native.Mathlib.Decide.{ℕ_discrete}
 use lib.ListN.{get_elem?}
 use Rattle.atomic_table.specs.Table.{State}
 use Rattle.cell_table.specs.Sorted.{Each}
 use Rattle.cell_table.specs.Cells.{has}
 use Rattle.cell_table.specs.History.{Outcome, decided, value_at, version_at, records_by}
 use Rattle.cell_table.specs.declared.view.Record.{Record}
-use Rattle.cell_table.specs.declared.view.Book.{Book}
 use Rattle.cell_table.specs.declared.view.View.{View}
-use Rattle.cell_table.specs.Rule.{clock_of, lock_of, word_of, callers_of, newest, value_now, IsAscending, Rule}
+use Rattle.cell_table.specs.Rule.{clock_of, lock_of, word_of, callers_of, newest, value_now, Rule}
 use Rattle.cell_table.specs.Steps.{Observes}
 use Rattle.cell_table.specs.Legal.{LegalNow}
 use Rattle.atomic_table.specs.Table.{Final, Seen}
@@ -24,8 +21,9 @@ use Rattle.cell_table.specs.Pass.{PassState, IsSole}
 use Rattle.cell_table.specs.IsPass.{IsPass, writer_books}
 use Rattle.cell_table.specs.Writers.{in_order, writers_in, up_to, replay, newest_in}
 use Rattle.cell_table.specs.Settled.{Words, Settled}
-use Rattle.cell_table.proofs.Sorted.{each_map, each_both}
+use Rattle.cell_table.proofs.Sorted.{each_map}
 use Rattle.cell_table.proofs.Callers.{all_books}
+use Rattle.cell_table.proofs.DrawsMade.{draws_made}
 use Rattle.cell_table.proofs.Views.{legal, draw_bound, in_callers}
 use Rattle.cell_table.proofs.ValueStore.{observes_stands}
 use Rattle.cell_table.proofs.SeatMove.{idle_mine}
@@ -97,6 +95,7 @@ module _ {M D : Type 0} (lawful : M → List ℕ → Type 0) (explains : M → L
         meaning = m;
         history = g;
         clock = n;
+        draws = draws_made lawful explains m opening total s r id v at acting sole ∙ ap (λ (z : ℕ). z * 2 ^ 48) (sym tot);
         is = same.0;
         known = f.known;
         books = k.books;

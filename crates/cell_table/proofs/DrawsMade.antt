@@ -1,5 +1,5 @@
 -- Where one view has every caller number, the clock counts the draws that it no longer has.
-use Rattle.std.proofs.Common.{◌≡◌, ◌≢◌, ℕ, zero, suc, ◌+◌, ◌*◌, ◌^◌, ◌<◌, ◌≤◌, true, List, [], ◌∷◌, length, sym, ◌∙◌, ap, refl, arith}
+use Rattle.std.proofs.Common.{◌≡◌, ◌≢◌, ℕ, zero, suc, ◌+◌, ◌*◌, ◌^◌, ◌<◌, true, List, [], ◌∷◌, length, sym, ◌∙◌, ap, refl, arith}
 use mathlib.Core.Option.{some}
 use lib.ListN.{get_elem?}
 use Rattle.atomic_table.specs.Table.{State}
@@ -7,7 +7,7 @@ use Rattle.cell_table.specs.Sorted.{Each}
 use Rattle.cell_table.specs.Cells.{has}
 use Rattle.cell_table.specs.declared.view.Book.{Book}
 use Rattle.cell_table.specs.declared.view.View.{View}
-use Rattle.cell_table.specs.Rule.{clock_of, callers_of, draws_left, Fits, Rule}
+use Rattle.cell_table.specs.Rule.{clock_of, callers_of, draws_left, Rule}
 use Rattle.cell_table.proofs.Sorted.{each_map}
 use Rattle.cell_table.proofs.Views.{in_callers}
 use Rattle.cell_table.proofs.Callers.{all_books}

@@ -1,7 +1,8 @@
 -- The held cells at run time are those of the view.
-use Rattle.std.proofs.Common.{◌≡◌, ◌≢◌, ℕ, zero, suc, ◌<◌, ◌≤◌, Bool, true, false, cond, eqb, ltb, List, [], ◌∷◌, ◌++◌, ◌⊎◌, length, take, drop, get_or, set, inl, inr, ⊎_elim, sym, refl, ap, ◌∙◌, subst, arith, eq-eqb, ne_eqb}
+use Rattle.std.proofs.Common.{◌≡◌, ◌≢◌, ℕ, zero, suc, ◌-◌, ◌<◌, ◌≤◌, Bool, true, false, cond, eqb, ltb, List, [], ◌∷◌, ◌++◌, ◌⊎◌, length, take, drop, get_or, set, inl, inr, ⊎_elim, sym, refl, ap, ◌∙◌, subst, arith, eq-eqb, ne_eqb}
 use mathlib.Core.Logic.{dite}
 use native.Mathlib.Decide.{ℕ_discrete}
+use Rattle.std.proofs.lemmas.List.{get_or_default}
 use Rattle.std.proofs.lemmas.Bool.Decides.{leb_tells}
 use Rattle.std.proofs.lemmas.Bool.{lt-leb, le-leb}
 use Rattle.cell_table.specs.Sorted.{Each, insert_by, IsAscendingBy}
@@ -153,6 +154,28 @@ sorted_at (x ∷ xs) o zero zero d l m = omega arith
 sorted_at (x ∷ xs) o zero (suc j) d l m = let a = at_least x.cell xs j d o.0 (omega arith) in omega arith
 sorted_at (x ∷ xs) o (suc i) zero d l m = absurd (omega arith)
 sorted_at (x ∷ xs) o (suc i) (suc j) d l m = sorted_at xs o.1 i j d (omega arith) (omega arith)
+
+sorted_below : (hs : List HeldCell) → IsAscendingBy held_key hs → (i j : ℕ) (d : HeldCell) → i < j → j < length hs → (get_or hs i d).cell < (get_or hs j d).cell
+sorted_below [] o i j d l m = absurd (omega arith)
+sorted_below (x ∷ xs) o i zero d l m = absurd (omega arith)
+sorted_below (x ∷ xs) o zero (suc j) d l m = at_least x.cell xs j d o.0 (omega arith)
+sorted_below (x ∷ xs) o (suc i) (suc j) d l m = sorted_below xs o.1 i j d (omega arith) (omega arith)
+
+-- a cell above the last one goes to the end
+pub point_past : (c : ℕ) (hs : List HeldCell) (d : HeldCell) → IsAscendingBy held_key hs → (0 < length hs → (get_or hs (length hs - 1) d).cell < c) → IsPoint c hs (length hs)
+point_past c hs d o low = (
+  omega arith,
+  (λ k e l. let a = sorted_at hs o k (length hs - 1) e (omega arith) (omega arith) in let b = ap (λ (h : HeldCell). h.cell) (get_or_default hs (length hs - 1) e d (omega arith)) in let f = low (omega arith) in omega arith),
+  λ k e l m. absurd (omega arith),
+)
+
+-- the last cell's place is the last one
+pub point_last : (c : ℕ) (hs : List HeldCell) (d : HeldCell) → IsAscendingBy held_key hs → 0 < length hs → (get_or hs (length hs - 1) d).cell ≡ c → IsPoint c hs (length hs - 1)
+point_last c hs d o some is = (
+  omega arith,
+  (λ k e l. let a = sorted_below hs o k (length hs - 1) e (omega arith) (omega arith) in let b = ap (λ (h : HeldCell). h.cell) (get_or_default hs (length hs - 1) e d (omega arith)) in omega arith),
+  λ k e l m. let at : k ≡ length hs - 1 = omega arith in let b = ap (λ (h : HeldCell). h.cell) (get_or_default hs (length hs - 1) e d (omega arith)) in let f = ap (λ (i : ℕ). (get_or hs i e).cell) at in omega arith,
+)
 
 pub below : (a b : ℕ) → ltb a b ≡ true → a < b
 below a b e = ⊎_elim (λ t. t.1) (λ f. let bad : true ≡ false = sym e ∙ f.0 in absurd (cc)) (leb_tells (suc a) b)

@@ -1,5 +1,5 @@
 -- A store of a value word after the first one keeps the rule.
-use Rattle.std.proofs.Common.{◌≡◌, ◌≢◌, ℕ, ◌+◌, ◌-◌, ◌*◌, ◌/◌, ◌<◌, ◌≤◌, Bool, true, false, cond, List, [], ◌∷◌, length, get_or, inl, inr, ⊎_elim, sym, refl, ap, ◌∙◌, subst, arith, ne_eqb, length-set}
+use Rattle.std.proofs.Common.{◌≡◌, ◌≢◌, ℕ, ◌+◌, ◌*◌, ◌<◌, ◌≤◌, Bool, true, false, cond, List, [], ◌∷◌, length, get_or, inl, inr, ⊎_elim, sym, refl, ap, ◌∙◌, subst, arith, ne_eqb, length-set}
 use mathlib.Core.Logic.{dite}
 use mathlib.Core.Option.{some, none}
 use native.Mathlib.Decide.{ℕ_discrete}
@@ -12,7 +12,7 @@ use Rattle.cell_table.specs.declared.view.Record.{Record}
 use Rattle.cell_table.specs.declared.view.View.{View}
 use Rattle.cell_table.specs.declared.view.Stage.{Stage}
 use Rattle.cell_table.specs.declared.view.Stage.TheVariants.{Open, Drawn, Decided}
-use Rattle.cell_table.specs.Rule.{clock_of, lock_of, word_of, actor, newest, value_now, IsClean, FitsStage, Fits, Rule}
+use Rattle.cell_table.specs.Rule.{clock_of, lock_of, word_of, actor, newest, value_now, IsClean, FitsStage, Fits, Rule, cell_of_value, value_place}
 use Rattle.cell_table.specs.Steps.{more_stored, MayStore, next_put}
 use Rattle.cell_table.specs.Legal.{LegalNow}
 use Rattle.cell_table.specs.Told.{next_told}
@@ -41,7 +41,7 @@ module _ {M D : Type 0} (lawful : M → List ℕ → Type 0) (explains : M → L
   R = Rule lawful explains m opening total
 
   puts_at : (s : S) (r : R s) (id : ℕ) (v : V) (c x : ℕ) (cs : List (ℕ × Unit {0})) → get_elem? s.views id ≡ some v → c < length opening → 0 < length v.books → (st : Stage D) → v.stage ≡ st → MayStore c x v.held st
-      → R (stepped s (2 * c + 2) x id cs (next_put v c x) keeps) × LegalNow lawful explains (next_put v c x)
+      → R (stepped s (value_place c) x id cs (next_put v c x) keeps) × LegalNow lawful explains (next_put v c x)
   puts_at s r id v c x cs at inside acting Open e may = absurd may
   puts_at s r id v c x cs at inside acting (Drawn u) e may = absurd may
   puts_at s r id v c x cs at inside acting (Decided u p stored) st may =
@@ -93,11 +93,11 @@ module _ {M D : Type 0} (lawful : M → List ℕ → Type 0) (explains : M → L
         stale = λ j z G e is. ⊎_elim (λ (y : G ≡ []). inl y) (λ y. let bad : Decided u p stored ≡ Drawn z = sym st ∙ y.0 in absurd (cc)) (g.stale j z G e is);
         reading = read_stays opening k h h ws ws' q v.reading g.reading;
       } in
-      let after : R (stepped s (2 * c + 2) x id cs w keeps) = record {
+      let after : R (stepped s (value_place c) x id cs w keeps) = record {
         owner = r.owner;
         placed = λ k. let l = r.placed k in let e = length-set s.views id w in omega arith;
         history = h;
-        wide = length-set ws (2 * c + 2) x ∙ r.wide;
+        wide = length-set ws (value_place c) x ∙ r.wide;
         small = r.small;
         lawful_opening = r.lawful_opening;
         fresh = λ z l. r.fresh z (omega arith);
@@ -110,6 +110,6 @@ module _ {M D : Type 0} (lawful : M → List ℕ → Type 0) (explains : M → L
       } in (after, legal lawful explains m opening total _ after id w acting own_fits (draw_bound lawful explains m opening total s r id v at))
 
   pub nexts : (slots id c x : ℕ) (me : Me (Unit {0}) V) → c < length opening → 0 < length me.0.books → MayStore c x me.0.held me.0.stage
-      → Allows R slots id me (2 * c + 2) (λ _. x) (λ _. next_told lawful explains (step slots (2 * c + 2) x 0 none) me x)
-  nexts slots id c x me inside acting may s r _ at _ = let v : V = me.0 in let got = puts_at s r id v c x me.1 at inside acting v.stage refl may in let back : (2 * c + 2 - 2) / 2 ≡ c = omega arith in
+      → Allows R slots id me (value_place c) (λ _. x) (λ _. next_told lawful explains (step slots (value_place c) x 0 none) me x)
+  nexts slots id c x me inside acting may s r _ at _ = let v : V = me.0 in let got = puts_at s r id v c x me.1 at inside acting v.stage refl may in let back : cell_of_value (value_place c) ≡ c = omega arith in
       (next_put v c x, keeps, tt, got.0, (subst (λ (z : ℕ). next_put v c x ≡ next_put v z x) (sym back) refl, got.1, refl))

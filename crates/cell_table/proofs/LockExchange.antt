@@ -1,5 +1,5 @@
 -- A compare-exchange of a lock word keeps the rule.
-use Rattle.std.proofs.Common.{◌≡◌, ◌≢◌, ℕ, ◌+◌, ◌-◌, ◌*◌, ◌/◌, ◌%◌, ◌<◌, ◌≤◌, Bool, false, cond, eqb, List, length, get_or, set, inl, inr, ⊎_elim, sym, refl, ap, ◌∙◌, subst, arith, eq-eqb, ne_eqb, length-set, get_or-set_other, get_or-set_same}
+use Rattle.std.proofs.Common.{◌≡◌, ◌≢◌, ℕ, ◌+◌, ◌*◌, ◌/◌, ◌%◌, ◌<◌, ◌≤◌, Bool, false, cond, eqb, List, length, get_or, set, inl, inr, ⊎_elim, sym, refl, ap, ◌∙◌, subst, arith, eq-eqb, ne_eqb, length-set, get_or-set_other, get_or-set_same}
 use mathlib.Core.Logic.{dite}
 use mathlib.Core.Option.{some, none}
 use native.Mathlib.Decide.{ℕ_discrete}
@@ -12,7 +12,7 @@ use Rattle.cell_table.specs.Cells.{has}
 use Rattle.cell_table.specs.History.{Outcome, unused, value_at, version_at, records_by, IsVersion, IsNewest}
 use Rattle.cell_table.specs.declared.view.View.{View}
 use Rattle.cell_table.specs.declared.view.Stage.TheVariants.{Open}
-use Rattle.cell_table.specs.Rule.{clock_of, lock_of, word_of, cells_of, actor, IsClean, FitsStage, Fits, Rule}
+use Rattle.cell_table.specs.Rule.{clock_of, lock_of, word_of, cells_of, actor, IsClean, FitsStage, Fits, Rule, cell_of_lock, lock_place, value_place}
 use Rattle.cell_table.specs.Steps.{Triples, cell_key, add_validation, taken, missed, IsWord}
 use Rattle.cell_table.specs.Legal.{LegalNow}
 use Rattle.cell_table.specs.Told.{take_told}
@@ -26,19 +26,19 @@ use Rattle.cell_table.proofs.Views.{draws_set, draw_bound, acts, legal, unmoved,
 -- a word of a lock is set
 module _ (ws : List ℕ) (c n : ℕ) where
   abbrev pub locked : List ℕ
-  locked = set ws (2 * c + 1) n
+  locked = set ws (lock_place c) n
 
   pub clock_kept : clock_of locked ≡ clock_of ws
-  clock_kept = get_or-set_other ws (2 * c + 1) 0 n 0 (λ e. omega arith)
+  clock_kept = get_or-set_other ws (lock_place c) 0 n 0 (λ e. omega arith)
 
   pub word_kept : (d : ℕ) → word_of locked d ≡ word_of ws d
-  word_kept d = get_or-set_other ws (2 * c + 1) (2 * d + 2) n 0 (λ e. omega arith)
+  word_kept d = get_or-set_other ws (lock_place c) (value_place d) n 0 (λ e. omega arith)
 
   pub lock_else : (d : ℕ) → d ≢ c → lock_of locked d ≡ lock_of ws d
-  lock_else d ne = get_or-set_other ws (2 * c + 1) (2 * d + 1) n 0 (λ e. ne (omega arith))
+  lock_else d ne = get_or-set_other ws (lock_place c) (lock_place d) n 0 (λ e. ne (omega arith))
 
-  pub lock_here : 2 * c + 1 < length ws → lock_of locked c ≡ n
-  lock_here l = get_or-set_same ws (2 * c + 1) n 0 l
+  pub lock_here : lock_place c < length ws → lock_of locked c ≡ n
+  lock_here l = get_or-set_same ws (lock_place c) n 0 l
 
   pub still_clean : {D : Type 0} (opening : List ℕ) (h : ℕ → Outcome D) (t : ℕ × ℕ) → IsClean opening h ws t → IsClean opening h locked t
   still_clean opening h t f = (ap (version_at h t.0) clock_kept ∙ f.0, word_kept t.0 ∙ (f.1 ∙ sym (ap (value_at (get_or opening t.0 0) h t.0) clock_kept)))
@@ -57,7 +57,7 @@ module _ {M D : Type 0} (lawful : M → List ℕ → Type 0) (explains : M → L
   FitsIn s r id v = Fits m opening total r.owner r.history s.words id v
 
   abbrev LockTaken : (s : S) → R s → ℕ → V → ℕ → ℕ → List (ℕ × Unit {0}) → Type 0
-  LockTaken s r id v c f cs = let w : V = taken v c f in R (stepped s (2 * c + 1) (2 * actor v.books v.total + 1) id cs w keeps) × LegalNow lawful explains w
+  LockTaken s r id v c f cs = let w : V = taken v c f in R (stepped s (lock_place c) (2 * actor v.books v.total + 1) id cs w keeps) × LegalNow lawful explains w
 
   hits : (s : S) (r : R s) (id : ℕ) (v : V) (c f : ℕ) (cs : List (ℕ × Unit {0})) → get_elem? s.views id ≡ some v → c < length opening → lock_of s.words c ≡ 2 * f → v.stage ≡ Open → 0 < length v.books → LockTaken s r id v c f cs × (has c (cells_of v.held) ≡ false)
   hits s r id v c f cs at inside free undrawn acting =
@@ -92,11 +92,11 @@ module _ {M D : Type 0} (lawful : M → List ℕ → Type 0) (explains : M → L
         stale = g.stale;
         reading = read_stays opening k h h ws ws' q v.reading g.reading;
       } in
-      let after : R (stepped s (2 * c + 1) (2 * k + 1) id cs w keeps) = record {
+      let after : R (stepped s (lock_place c) (2 * k + 1) id cs w keeps) = record {
         owner = r.owner;
         placed = λ k. let l = r.placed k in let e = length-set s.views id w in omega arith;
         history = h;
-        wide = length-set ws (2 * c + 1) (2 * k + 1) ∙ r.wide;
+        wide = length-set ws (lock_place c) (2 * k + 1) ∙ r.wide;
         small = r.small;
         lawful_opening = r.lawful_opening;
         fresh = subst (λ (n : ℕ). (u : ℕ) → n < u → h u ≡ unused) (sym (clock_kept ws c (2 * k + 1))) r.fresh;
@@ -126,11 +126,11 @@ module _ {M D : Type 0} (lawful : M → List ℕ → Type 0) (explains : M → L
       (r.cells c inside)
 
   pub takes : (slots id c f : ℕ) (me : Me (Unit {0}) V) → c < length opening → me.0.stage ≡ Open → 0 < length me.0.books
-      → Allows R slots id me (2 * c + 1) (λ n. either (eqb n (2 * f)) (2 * actor me.0.books me.0.total + 1) n) (take_told lawful explains (step slots (2 * c + 1) (2 * f) (2 * actor me.0.books me.0.total + 1) none) me)
+      → Allows R slots id me (lock_place c) (λ n. either (eqb n (2 * f)) (2 * actor me.0.books me.0.total + 1) n) (take_told lawful explains (step slots (lock_place c) (2 * f) (2 * actor me.0.books me.0.total + 1) none) me)
   takes slots id c f me inside undrawn acting s r _ at _ = let v : V = me.0 in let n : ℕ = lock_of s.words c in let k : ℕ = actor v.books v.total in let g = r.views id v at in
-      let back : (2 * c + 1 - 1) / 2 ≡ c = omega arith in let half : 2 * f / 2 ≡ f = omega arith in
+      let back : cell_of_lock (lock_place c) ≡ c = omega arith in let half : 2 * f / 2 ≡ f = omega arith in
       let word : IsWord v c n = word_is lawful explains m opening total s r id c v at acting inside in
-      exchanged n (2 * f) (2 * k + 1) (λ z. (w : V) × (a : Rattle.atomic_table.specs.Table.Act (Unit {0})) × Rattle.atomic_table.specs.Table.Valid s.homes me.1 a × R (stepped s (2 * c + 1) z id me.1 w a) × take_told lawful explains (step slots (2 * c + 1) (2 * f) (2 * k + 1) none) me n (w, Rattle.atomic_table.specs.Table.carried_after me.1 a))
+      exchanged n (2 * f) (2 * k + 1) (λ z. (w : V) × (a : Rattle.atomic_table.specs.Table.Act (Unit {0})) × Rattle.atomic_table.specs.Table.Valid s.homes me.1 a × R (stepped s (lock_place c) z id me.1 w a) × take_told lawful explains (step slots (lock_place c) (2 * f) (2 * k + 1) none) me n (w, Rattle.atomic_table.specs.Table.carried_after me.1 a))
       (λ hit. let got = hits s r id v c f me.1 at inside hit undrawn acting in (
         taken v c f,
         keeps,
@@ -164,11 +164,11 @@ module _ {M D : Type 0} (lawful : M → List ℕ → Type 0) (explains : M → L
         w,
         keeps,
         tt,
-        unmoved lawful explains m opening total s r (2 * c + 1) id me.1 v w at refl o,
+        unmoved lawful explains m opening total s r (lock_place c) id me.1 v w at refl o,
         ((λ hit. absurd (miss hit)), (λ _. subst (λ (z : ℕ). w ≡ missed v z n) (sym back) refl), subst (λ (z : ℕ). IsWord v z n) (sym back) word, legal lawful explains m opening total s r id w acting o (draw_bound lawful explains m opening total s r id v at), refl),
       ))
 
   pub takes_from : (slots id c from mine : ℕ) (me : Me (Unit {0}) V) → c < length opening → me.0.stage ≡ Open → 0 < length me.0.books → from ≡ 2 * (from / 2) → mine ≡ 2 * actor me.0.books me.0.total + 1
-      → Allows R slots id me (2 * c + 1) (λ n. either (eqb n from) mine n) (take_told lawful explains (step slots (2 * c + 1) from mine none) me)
+      → Allows R slots id me (lock_place c) (λ n. either (eqb n from) mine n) (take_told lawful explains (step slots (lock_place c) from mine none) me)
   takes_from slots id c from mine me inside undrawn acting even odd =
-      subst (λ (z : ℕ × ℕ). Allows R slots id me (2 * c + 1) (λ n. either (eqb n z.0) z.1 n) (take_told lawful explains (step slots (2 * c + 1) z.0 z.1 none) me)) (λ i. (sym even i, sym odd i)) (takes slots id c (from / 2) me inside undrawn acting)
+      subst (λ (z : ℕ × ℕ). Allows R slots id me (lock_place c) (λ n. either (eqb n z.0) z.1 n) (take_told lawful explains (step slots (lock_place c) z.0 z.1 none) me)) (λ i. (sym even i, sym odd i)) (takes slots id c (from / 2) me inside undrawn acting)

@@ -1,5 +1,5 @@
 -- A load of a lock word keeps the rule.
-use Rattle.std.proofs.Common.{◌≡◌, ◌≢◌, ℕ, ◌+◌, ◌-◌, ◌*◌, ◌/◌, ◌%◌, ◌<◌, ◌≤◌, Bool, cond, List, length, ⊎_elim, sym, refl, ap, subst, arith, eq-eqb, ne_eqb}
+use Rattle.std.proofs.Common.{◌≡◌, ◌≢◌, ℕ, ◌*◌, ◌/◌, ◌%◌, ◌<◌, ◌≤◌, Bool, cond, List, length, ⊎_elim, sym, refl, ap, subst, arith, eq-eqb, ne_eqb}
 use mathlib.Core.Logic.{dite}
 use mathlib.Core.Option.{some, none}
 use native.Mathlib.Decide.{ℕ_discrete}
@@ -7,7 +7,7 @@ use lib.ListN.{get_elem?}
 use Rattle.atomic_table.specs.Table.{State, Me, step, keeps, Allows}
 use Rattle.cell_table.specs.History.{IsVersion}
 use Rattle.cell_table.specs.declared.view.View.{View}
-use Rattle.cell_table.specs.Rule.{clock_of, lock_of, Fits, Rule}
+use Rattle.cell_table.specs.Rule.{clock_of, lock_of, Fits, Rule, cell_of_lock, lock_place}
 use Rattle.cell_table.specs.Steps.{free_look, held_look, looked, IsWord}
 use Rattle.cell_table.specs.Told.{lock_told}
 use Rattle.cell_table.proofs.Views.{draw_bound, legal, unmoved, clean, low, version, validated, read_added, word_is}
@@ -74,13 +74,13 @@ module _ {M D : Type 0} (lawful : M → List ℕ → Type 0) (explains : M → L
   look_books v c n = let Q : V → Type 0 = λ w. (0 < length v.books → 0 < length w.books) × (w.draws ≡ v.draws) in dite (ℕ_discrete (n % 2) 0)
       (λ e. subst Q (sym (even_look v c n e)) ((λ l. l), refl)) (λ e. subst Q (sym (odd_look v c n e)) ((λ l. l), refl))
 
-  pub looks : (slots id c : ℕ) (me : Me (Unit {0}) V) → c < length opening → 0 < length me.0.books → Allows R slots id me (2 * c + 1) (λ n. n) (lock_told lawful explains (step slots (2 * c + 1) 0 0 none) me)
-  looks slots id c me inside acting s r _ at _ = let v : V = me.0 in let n : ℕ = lock_of s.words c in let w : V = looked v c n in let b = look_books v c n in let back : (2 * c + 1 - 1) / 2 ≡ c = omega arith in
+  pub looks : (slots id c : ℕ) (me : Me (Unit {0}) V) → c < length opening → 0 < length me.0.books → Allows R slots id me (lock_place c) (λ n. n) (lock_told lawful explains (step slots (lock_place c) 0 0 none) me)
+  looks slots id c me inside acting s r _ at _ = let v : V = me.0 in let n : ℕ = lock_of s.words c in let w : V = looked v c n in let b = look_books v c n in let back : cell_of_lock (lock_place c) ≡ c = omega arith in
       let g : FitsIn s r id w = look_fits s r id c v at inside in (
         w,
         keeps,
         tt,
-        unmoved lawful explains m opening total s r (2 * c + 1) id me.1 v w at b.1 g,
+        unmoved lawful explains m opening total s r (lock_place c) id me.1 v w at b.1 g,
         (
           subst (λ (z : ℕ). w ≡ looked v z n) (sym back) refl,
           subst (λ (z : ℕ). IsWord v z n) (sym back) (word_is lawful explains m opening total s r id c v at acting inside),

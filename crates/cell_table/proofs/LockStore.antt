@@ -1,5 +1,5 @@
 -- A store of a lock word, which gives a cell back, keeps the rule.
-use Rattle.std.proofs.Common.{◌≡◌, ◌≢◌, ℕ, ◌+◌, ◌-◌, ◌*◌, ◌/◌, ◌<◌, ◌≤◌, Bool, true, false, cond, List, [], ◌∷◌, ◌⊎◌, length, get_or, inl, inr, ⊎_elim, sym, refl, ap, ◌∙◌, subst, arith, length-set}
+use Rattle.std.proofs.Common.{◌≡◌, ◌≢◌, ℕ, ◌+◌, ◌-◌, ◌*◌, ◌<◌, ◌≤◌, Bool, true, false, cond, List, [], ◌∷◌, ◌⊎◌, length, get_or, inl, inr, ⊎_elim, sym, refl, ap, ◌∙◌, subst, arith, length-set}
 use mathlib.Core.Logic.{dite}
 use mathlib.Core.Option.{some, none}
 use native.Mathlib.Decide.{ℕ_discrete}
@@ -12,7 +12,7 @@ use Rattle.cell_table.specs.declared.view.Record.{Record}
 use Rattle.cell_table.specs.declared.view.View.{View}
 use Rattle.cell_table.specs.declared.view.Stage.{Stage}
 use Rattle.cell_table.specs.declared.view.Stage.TheVariants.{Open, Drawn, Decided}
-use Rattle.cell_table.specs.Rule.{clock_of, lock_of, cells_of, without, actor, IsClean, IsUnstored, IsSettled, FitsStage, Fits, Rule}
+use Rattle.cell_table.specs.Rule.{clock_of, lock_of, cells_of, without, actor, IsClean, IsUnstored, IsSettled, FitsStage, Fits, Rule, cell_of_lock, lock_place}
 use Rattle.cell_table.specs.Steps.{after_release, kept_in, due, IsStoredOrUndecided, given}
 use Rattle.cell_table.specs.Legal.{LegalNow}
 use Rattle.cell_table.specs.Told.{give_told}
@@ -45,7 +45,7 @@ module _ {M D : Type 0} (lawful : M → List ℕ → Type 0) (explains : M → L
   R = Rule lawful explains m opening total
 
   abbrev Given : (s : S) → ℕ → V → ℕ → ℕ → List (ℕ × Unit {0}) → Type 0
-  Given s id v c n cs = R (stepped s (2 * c + 1) (2 * n) id cs (given v c (2 * n)) keeps) × LegalNow lawful explains (given v c (2 * n))
+  Given s id v c n cs = R (stepped s (lock_place c) (2 * n) id cs (given v c (2 * n)) keeps) × LegalNow lawful explains (given v c (2 * n))
 
   -- h' is the history afterwards
   gives_with : (s : S) (r : R s) (id : ℕ) (v : V) (c n : ℕ) (cs : List (ℕ × Unit {0})) → get_elem? s.views id ≡ some v → c < length opening → 0 < length v.books
@@ -87,11 +87,11 @@ module _ {M D : Type 0} (lawful : M → List ℕ → Type 0) (explains : M → L
             (λ t. ⊎_elim (λ (f : G ≡ []). inl f) (λ f. inr (f, t.1)) (release_drawn (without c v.held) v.stage z G t.2 t.0)) (pends z j G is);
         reading = read_stays opening k h h' ws ws' q v.reading g.reading;
       } in
-      let after : R (stepped s (2 * c + 1) (2 * n) id cs w keeps) = record {
+      let after : R (stepped s (lock_place c) (2 * n) id cs w keeps) = record {
         owner = r.owner;
         placed = λ k. let l = r.placed k in let e = length-set s.views id w in omega arith;
         history = h';
-        wide = length-set ws (2 * c + 1) (2 * n) ∙ r.wide;
+        wide = length-set ws (lock_place c) (2 * n) ∙ r.wide;
         small = r.small;
         lawful_opening = r.lawful_opening;
         fresh = λ z l. unuseds z (r.fresh z (omega arith));
@@ -189,10 +189,10 @@ module _ {M D : Type 0} (lawful : M → List ℕ → Type 0) (explains : M → L
       by_stage s r id v c n cs at inside acting st e got.0 got.1 kept was fits unchanged
 
   pub gives : (slots id c : ℕ) (me : Me (Unit {0}) V) → c < length opening → 0 < length me.0.books → has c (cells_of me.0.held) ≡ true → IsStoredOrUndecided me.0.stage
-      → Allows R slots id me (2 * c + 1) (λ _. 2 * due c me.0.held me.0.stage) (λ _. give_told lawful explains (step slots (2 * c + 1) (2 * due c me.0.held me.0.stage) 0 none) me (2 * due c me.0.held me.0.stage))
-  gives slots id c me inside acting holds stored s r _ at _ = let v : V = me.0 in let n : ℕ = due c v.held v.stage in let got = gives_at s r id v c me.1 at inside acting v.stage refl holds stored in let back : (2 * c + 1 - 1) / 2 ≡ c = omega arith in
+      → Allows R slots id me (lock_place c) (λ _. 2 * due c me.0.held me.0.stage) (λ _. give_told lawful explains (step slots (lock_place c) (2 * due c me.0.held me.0.stage) 0 none) me (2 * due c me.0.held me.0.stage))
+  gives slots id c me inside acting holds stored s r _ at _ = let v : V = me.0 in let n : ℕ = due c v.held v.stage in let got = gives_at s r id v c me.1 at inside acting v.stage refl holds stored in let back : cell_of_lock (lock_place c) ≡ c = omega arith in
       (given v c (2 * n), keeps, tt, got.0, (subst (λ (z : ℕ). given v c (2 * n) ≡ given v z (2 * n)) (sym back) refl, got.1, refl))
 
   pub gives_word : (slots id c n : ℕ) (me : Me (Unit {0}) V) → n ≡ 2 * due c me.0.held me.0.stage → c < length opening → 0 < length me.0.books → has c (cells_of me.0.held) ≡ true → IsStoredOrUndecided me.0.stage
-      → Allows R slots id me (2 * c + 1) (λ _. n) (λ _. give_told lawful explains (step slots (2 * c + 1) n 0 none) me n)
-  gives_word slots id c n me is inside acting holds stored = subst (λ (z : ℕ). Allows R slots id me (2 * c + 1) (λ _. z) (λ _. give_told lawful explains (step slots (2 * c + 1) z 0 none) me z)) (sym is) (gives slots id c me inside acting holds stored)
+      → Allows R slots id me (lock_place c) (λ _. n) (λ _. give_told lawful explains (step slots (lock_place c) n 0 none) me n)
+  gives_word slots id c n me is inside acting holds stored = subst (λ (z : ℕ). Allows R slots id me (lock_place c) (λ _. z) (λ _. give_told lawful explains (step slots (lock_place c) z 0 none) me z)) (sym is) (gives slots id c me inside acting holds stored)

@@ -4,6 +4,7 @@ use mathlib.Core.Logic.{dite}
 use native.Mathlib.Decide.{ℕ_discrete}
 use Rattle.std.proofs.lemmas.Bool.{le-leb}
 use Rattle.atomic_table.specs.Seated.{TableId}
+use Rattle.cell_table.specs.Rule.{cell_of_lock, cell_of_value, lock_place, value_place}
 use Rattle.cell_table.specs.Sorted.{Each, Among}
 use Rattle.cell_table.specs.declared.view.Record.{Record}
 use Rattle.cell_table.specs.declared.view.Book.{Book}
@@ -246,11 +247,11 @@ module _ {M D : Type 0} where
   looked_trail v c r = by_parity (λ w. w.trail ≡ Rattle.cell_table.specs.declared.view.Event.TheVariants.LockLoaded c r ∷ v.trail) v c r (λ y. refl) (λ n. refl)
 
 -- the cell that a word belongs to
-pub at_lock : (P : ℕ → Type 0) (c : ℕ) → P ((2 * c + 1 - 1) / 2) → P c
-at_lock P c p = let e : (2 * c + 1 - 1) / 2 ≡ c = omega arith in subst P e p
+pub at_lock : (P : ℕ → Type 0) (c : ℕ) → P (cell_of_lock (lock_place c)) → P c
+at_lock P c p = let e : cell_of_lock (lock_place c) ≡ c = omega arith in subst P e p
 
-pub at_value : (P : ℕ → Type 0) (c : ℕ) → P ((2 * c + 2 - 2) / 2) → P c
-at_value P c p = let e : (2 * c + 2 - 2) / 2 ≡ c = omega arith in subst P e p
+pub at_value : (P : ℕ → Type 0) (c : ℕ) → P (cell_of_value (value_place c)) → P c
+at_value P c p = let e : cell_of_value (value_place c) ≡ c = omega arith in subst P e p
 
 module _ {M D : Type 0} where
   pub look_of : (p q : PassState M D) (w : View M D) (t : TableId) (c r : ℕ) → p ≡ q → t ≡ p.table → w ≡ looked p.view c r → record p { view = w; table = t } ≡ record q { view = looked q.view c r }

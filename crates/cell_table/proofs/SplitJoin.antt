@@ -3,7 +3,6 @@ use Rattle.std.proofs.Common.{◌≡◌, ℕ, zero, suc, ◌+◌, ◌-◌, ◌*�
 use mathlib.Core.List.{reverse-cons, reverse-append, append_assoc}
 use Rattle.atomic_table.specs.Seated.{TableId}
 use Rattle.cell_table.specs.Sorted.{Each, merge_by}
-use Rattle.cell_table.specs.declared.view.Book.{Book}
 use Rattle.cell_table.specs.declared.view.NotedBook.{NotedBook}
 use Rattle.cell_table.specs.declared.view.View.{View}
 use Rattle.cell_table.specs.declared.view.Stage.TheVariants.{Open, Drawn}

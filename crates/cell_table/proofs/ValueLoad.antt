@@ -1,5 +1,5 @@
 -- A load of a value word keeps the rule.
-use Rattle.std.proofs.Common.{◌≡◌, ℕ, ◌+◌, ◌-◌, ◌*◌, ◌/◌, ◌<◌, ◌≤◌, Bool, cond, List, [], ◌∷◌, length, sym, refl, ap, ◌∙◌, subst, arith, eq-eqb, ne_eqb}
+use Rattle.std.proofs.Common.{◌≡◌, ℕ, ◌<◌, ◌≤◌, Bool, cond, List, [], ◌∷◌, length, sym, refl, ap, ◌∙◌, subst, arith, eq-eqb, ne_eqb}
 use mathlib.Core.Logic.{dite}
 use mathlib.Core.Option.{none}
 use native.Mathlib.Decide.{ℕ_discrete}
@@ -11,7 +11,7 @@ use Rattle.cell_table.specs.declared.view.Stage.{Stage}
 use Rattle.cell_table.specs.declared.view.Stage.TheVariants.{Open, Drawn, Decided}
 use Rattle.cell_table.specs.declared.view.OpenRead.{OpenRead}
 use Rattle.cell_table.specs.declared.view.OpenRead.TheVariants.{NoRead, LockRead, ValueRead}
-use Rattle.cell_table.specs.Rule.{clock_of, word_of, IsClean, FitsStage, FitsRead, Fits, Rule}
+use Rattle.cell_table.specs.Rule.{clock_of, word_of, IsClean, FitsStage, FitsRead, Fits, Rule, cell_of_value, value_place}
 use Rattle.cell_table.specs.Steps.{Triples, add_kept, add_held, next_read, valued}
 use Rattle.cell_table.specs.Told.{value_told}
 use Rattle.cell_table.proofs.Sorted.{each_map}
@@ -50,8 +50,8 @@ module _ {M D : Type 0} (lawful : M → List ℕ → Type 0) (explains : M → L
   abbrev R : S → Type 0
   R = Rule lawful explains m opening total
 
-  pub loads : (slots id c : ℕ) (me : Me (Unit {0}) V) → c < length opening → 0 < length me.0.books → Allows R slots id me (2 * c + 2) (λ n. n) (value_told lawful explains (step slots (2 * c + 2) 0 0 none) me)
-  loads slots id c me inside acting s r _ at _ = let v : V = me.0 in let f = r.views id v at in let x : ℕ = word_of s.words c in let w : V = valued v c x in let back : (2 * c + 2 - 2) / 2 ≡ c = omega arith in
+  pub loads : (slots id c : ℕ) (me : Me (Unit {0}) V) → c < length opening → 0 < length me.0.books → Allows R slots id me (value_place c) (λ n. n) (value_told lawful explains (step slots (value_place c) 0 0 none) me)
+  loads slots id c me inside acting s r _ at _ = let v : V = me.0 in let f = r.views id v at in let x : ℕ = word_of s.words c in let w : V = valued v c x in let back : cell_of_value (value_place c) ≡ c = omega arith in
       let g : Fits m opening total r.owner r.history s.words id w = record {
         same = f.same;
         high = f.high;
@@ -67,4 +67,4 @@ module _ {M D : Type 0} (lawful : M → List ℕ → Type 0) (explains : M → L
         stage = f.stage;
         stale = f.stale;
         reading = reads_on opening r.history s.words v.reading c f.reading;
-      } in (w, keeps, tt, unmoved lawful explains m opening total s r (2 * c + 2) id me.1 v w at refl g, (subst (λ (z : ℕ). w ≡ valued v z x) (sym back) refl, legal lawful explains m opening total s r id w acting g (draw_bound lawful explains m opening total s r id v at), refl))
+      } in (w, keeps, tt, unmoved lawful explains m opening total s r (value_place c) id me.1 v w at refl g, (subst (λ (z : ℕ). w ≡ valued v z x) (sym back) refl, legal lawful explains m opening total s r id w acting g (draw_bound lawful explains m opening total s r id v at), refl))

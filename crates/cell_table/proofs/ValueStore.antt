@@ -1,5 +1,5 @@
 -- A store of a value word keeps the rule. The first one of an attempt decides it.
-use Rattle.std.proofs.Common.{◌≡◌, ◌≢◌, ℕ, suc, ◌+◌, ◌-◌, ◌*◌, ◌/◌, ◌<◌, ◌≤◌, Bool, true, false, cond, eqb, List, [], ◌∷◌, length, get_or, set, inl, inr, ⊎_elim, sym, refl, ap, ◌∙◌, subst, arith, eq-eqb, ne_eqb, length-set, get_or-set_other, get_or-set_same}
+use Rattle.std.proofs.Common.{◌≡◌, ◌≢◌, ℕ, suc, ◌+◌, ◌-◌, ◌*◌, ◌<◌, ◌≤◌, Bool, true, false, cond, eqb, List, [], ◌∷◌, length, get_or, set, inl, inr, ⊎_elim, sym, refl, ap, ◌∙◌, subst, arith, eq-eqb, ne_eqb, length-set, get_or-set_other, get_or-set_same}
 use mathlib.Core.Logic.{dite}
 use mathlib.Core.Option.{some, none}
 use native.Mathlib.Decide.{ℕ_discrete}
@@ -12,7 +12,7 @@ use Rattle.cell_table.specs.declared.view.Record.{Record}
 use Rattle.cell_table.specs.declared.view.Book.{Book}
 use Rattle.cell_table.specs.declared.view.View.{View}
 use Rattle.cell_table.specs.declared.view.Stage.TheVariants.{Drawn, Decided}
-use Rattle.cell_table.specs.Rule.{clock_of, lock_of, word_of, cells_of, actor, callers_of, newest, value_now, IsClean, FitsStage, Fits, IsAscending, IsRecord, Rule}
+use Rattle.cell_table.specs.Rule.{clock_of, lock_of, word_of, cells_of, actor, callers_of, newest, value_now, IsClean, FitsStage, Fits, IsAscending, IsRecord, Rule, cell_of_value, lock_place, value_place}
 use Rattle.cell_table.specs.Steps.{MayDecide, AllHeld, first_put, enter, Observes}
 use Rattle.cell_table.specs.Legal.{LegalNow}
 use Rattle.cell_table.specs.Told.{first_told}
@@ -27,19 +27,19 @@ use Rattle.cell_table.proofs.ClockAdd.{le_or, records_stand}
 -- the word of a cell is set
 module _ (ws : List ℕ) (c x : ℕ) where
   abbrev pub stored_in : List ℕ
-  stored_in = set ws (2 * c + 2) x
+  stored_in = set ws (value_place c) x
 
   pub clock_same : clock_of stored_in ≡ clock_of ws
-  clock_same = get_or-set_other ws (2 * c + 2) 0 x 0 (λ e. omega arith)
+  clock_same = get_or-set_other ws (value_place c) 0 x 0 (λ e. omega arith)
 
   pub lock_same : (d : ℕ) → lock_of stored_in d ≡ lock_of ws d
-  lock_same d = get_or-set_other ws (2 * c + 2) (2 * d + 1) x 0 (λ e. omega arith)
+  lock_same d = get_or-set_other ws (value_place c) (lock_place d) x 0 (λ e. omega arith)
 
   pub word_else : (d : ℕ) → d ≢ c → word_of stored_in d ≡ word_of ws d
-  word_else d ne = get_or-set_other ws (2 * c + 2) (2 * d + 2) x 0 (λ e. ne (omega arith))
+  word_else d ne = get_or-set_other ws (value_place c) (value_place d) x 0 (λ e. ne (omega arith))
 
-  pub word_here : 2 * c + 2 < length ws → word_of stored_in c ≡ x
-  word_here l = get_or-set_same ws (2 * c + 2) x 0 l
+  pub word_here : value_place c < length ws → word_of stored_in c ≡ x
+  word_here l = get_or-set_same ws (value_place c) x 0 l
 
 -- what a view observes stands in the history
 pub observes_stands : {M D : Type 0} (opening : List ℕ) (h : ℕ → Outcome D) (n : ℕ) (v : View M D) → Each (λ t. (t.1 ≤ n) × IsValue opening h t.0 t.1 t.2) v.values → Each (λ t. (t.2 ≤ n) × IsNewest h t.0 t.1 t.2) v.validations
@@ -93,7 +93,7 @@ module _ {M D : Type 0} (lawful : M → List ℕ → Type 0) (explains : M → L
 
   decides : (s : S) (r : R s) (id : ℕ) (v : V) (c x u : ℕ) (plan : Record D) (cs : List (ℕ × Unit {0})) → get_elem? s.views id ≡ some v → c < length opening → v.stage ≡ Drawn u → 0 < length v.books → MayDecide explains v u plan → AllHeld plan.writes v.held
       → writes_to plan.writes c ≡ true → written (get_or opening c 0) plan.writes c ≡ x
-      → R (stepped s (2 * c + 2) x id cs (first_put v u plan c x) keeps) × LegalNow lawful explains (first_put v u plan c x)
+      → R (stepped s (value_place c) x id cs (first_put v u plan c x) keeps) × LegalNow lawful explains (first_put v u plan c x)
   decides s r id v c x u plan cs at inside st acting may all_held is_written value =
       let g = r.views id v at in let k : ℕ = actor v.books v.total in let own = acts v.books v.total id total r.owner _ acting g.books in
       let ws : List ℕ = s.words in let ws' : List ℕ = stored_in ws c x in let h : ℕ → Outcome D = r.history in let w : V = first_put v u plan c x in let wide = r.wide in let n : ℕ = clock_of ws in
@@ -153,11 +153,11 @@ module _ {M D : Type 0} (lawful : M → List ℕ → Type 0) (explains : M → L
             (λ t. ⊎_elim (λ (y : G ≡ []). inl y) (λ y. let same : Drawn u ≡ Drawn z = sym st ∙ y.0 in let eq : z ≡ u = cc in absurd (t.0 eq)) (g.stale j z G e t.1)) (at_upd h u d' z _ is);
         reading = read_stays opening k h h' ws ws' q v.reading g.reading;
       } in
-      let after : R (stepped s (2 * c + 2) x id cs w keeps) = record {
+      let after : R (stepped s (value_place c) x id cs w keeps) = record {
         owner = r.owner;
         placed = λ k. let l = r.placed k in let e = length-set s.views id w in omega arith;
         history = h';
-        wide = length-set ws (2 * c + 2) x ∙ r.wide;
+        wide = length-set ws (value_place c) x ∙ r.wide;
         small = r.small;
         lawful_opening = r.lawful_opening;
         fresh = λ z l. let ne : z ≢ u = λ is. omega arith in upd_other h u d' z ne ∙ r.fresh z (omega arith);
@@ -187,8 +187,8 @@ module _ {M D : Type 0} (lawful : M → List ℕ → Type 0) (explains : M → L
 
   pub firsts : (slots id c x u : ℕ) (plan : Record D) (me : Me (Unit {0}) V) → c < length opening → me.0.stage ≡ Drawn u → 0 < length me.0.books → MayDecide explains me.0 u plan → AllHeld plan.writes me.0.held
       → writes_to plan.writes c ≡ true → ((y : ℕ) → written y plan.writes c ≡ x)
-      → Allows R slots id me (2 * c + 2) (λ _. x) (λ _. first_told lawful explains plan (step slots (2 * c + 2) x 0 none) me x)
-  firsts slots id c x u plan me inside st acting may all_held touched value s r _ at _ = let v : V = me.0 in let got = decides s r id v c x u plan me.1 at inside st acting may all_held touched (value _) in let back : (2 * c + 2 - 2) / 2 ≡ c = omega arith in
+      → Allows R slots id me (value_place c) (λ _. x) (λ _. first_told lawful explains plan (step slots (value_place c) x 0 none) me x)
+  firsts slots id c x u plan me inside st acting may all_held touched value s r _ at _ = let v : V = me.0 in let got = decides s r id v c x u plan me.1 at inside st acting may all_held touched (value _) in let back : cell_of_value (value_place c) ≡ c = omega arith in
       (first_put v u plan c x, keeps, tt, got.0, ((λ z e. let same : Drawn u ≡ Drawn z = sym st ∙ e in let eq : u ≡ z = cc in subst (λ (i : ℕ × ℕ). first_put v u plan c x ≡ first_put v i.0 plan i.1 x) (λ i. (eq i, sym back i)) refl), got.1, refl))
 
 module _ {D : Type 0} where

@@ -23,10 +23,10 @@ module _ {D : Type 0} where
   writer_books [] = []
   writer_books (b ∷ bs) = record { caller = b.caller; records = writers_after [] b.entries } ∷ writer_books bs
 
-  -- the places of a book never fall, and begin at p or above
+  -- the places of a book never fall and begin at p or above, and a writer's is above all before it
   abbrev pub PlacesFrom : ℕ → List (Noted D) → Type 0
   PlacesFrom p [] = Unit {0}
-  PlacesFrom p (e ∷ es) = (p ≤ e.place) × PlacesFrom e.place es
+  PlacesFrom p (e ∷ es) = (p ≤ e.place) × (e.writer ≡ true → p < e.place) × PlacesFrom e.place es
 
   -- the cells whose value is stored are written ones
   abbrev pub AreWritten : Stage D → Type 0

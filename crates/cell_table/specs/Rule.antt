@@ -1,5 +1,5 @@
 -- The rule that holds between any two steps.
--- Word 0 is the version clock, word 2 c + 1 the lock word of the cell c, and word 2 c + 2 its value.
+-- Word 0 is the version clock. Behind it each cell has a lock word and a value.
 -- A free lock word is twice a version, a held one is twice a caller number plus 1.
 use Rattle.std.specs.Prelude.{◌≡◌, ◌≢◌, ℕ, zero, suc, ◌+◌, ◌-◌, ◌*◌, ◌/◌, ◌^◌, ◌<◌, ◌≤◌, true, false, cond, eqb, ◌⊎◌, List, [], ◌∷◌, length, slice_index, Some}
 use mathlib.Core.Option.{some}
@@ -21,11 +21,28 @@ use Rattle.cell_table.specs.declared.view.OpenRead.TheVariants.{NoRead, LockRead
 abbrev pub clock_of : List ℕ → ℕ
 clock_of ws = slice_index ws 0
 
+-- where the words of a cell are, and the cell whose word is there
+abbrev pub lock_place : ℕ → ℕ
+lock_place c = 2 * c + 1
+
+abbrev pub value_place : ℕ → ℕ
+value_place c = 2 * c + 2
+
+abbrev pub cell_of_lock : ℕ → ℕ
+cell_of_lock place = (place - 1) / 2
+
+abbrev pub cell_of_value : ℕ → ℕ
+cell_of_value place = (place - 2) / 2
+
+-- how many words a table of so many cells has
+abbrev pub words_for : ℕ → ℕ
+words_for cells = 2 * cells + 1
+
 abbrev pub lock_of : List ℕ → ℕ → ℕ
-lock_of ws c = slice_index ws (2 * c + 1)
+lock_of ws c = slice_index ws (lock_place c)
 
 abbrev pub word_of : List ℕ → ℕ → ℕ
-word_of ws c = slice_index ws (2 * c + 2)
+word_of ws c = slice_index ws (value_place c)
 
 abbrev pub cells_of : List (ℕ × ℕ) → List ℕ
 cells_of [] = []
@@ -120,7 +137,7 @@ module _ {M D : Type 0} (lawful : M → List ℕ → Type 0) (explains : M → L
     pub owner : ℕ → ℕ
     pub placed : (k : ℕ) → owner k < length s.views
     pub history : ℕ → Outcome D
-    pub wide : length s.words ≡ 2 * length opening + 1
+    pub wide : length s.words ≡ words_for (length opening)
     pub small : total ≤ 4096
     pub lawful_opening : lawful m opening
     pub fresh : (w : ℕ) → clock_of s.words < w → history w ≡ unused

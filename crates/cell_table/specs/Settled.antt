@@ -1,5 +1,5 @@
 -- What stands at the end, where one pass has every caller number.
-use Rattle.std.specs.Prelude.{◌≡◌, ℕ, ◌<◌, ◌≤◌, true, false, List, [], length, slice_index, Some}
+use Rattle.std.specs.Prelude.{◌≡◌, ℕ, ◌+◌, ◌*◌, ◌^◌, ◌<◌, ◌≤◌, true, false, List, [], length, slice_index, Some}
 use Rattle.cell_table.specs.Sorted.{Each}
 use Rattle.cell_table.specs.Cells.{AllHold, has}
 use Rattle.cell_table.specs.History.{Outcome, decided, cells_at, version_at, records_by}
@@ -21,6 +21,8 @@ module _ {M D : Type 0} (lawful : M → List ℕ → Type 0) (explains : M → L
     -- what became of each version, and how many were drawn
     pub history : ℕ → Outcome D
     pub clock : ℕ
+    -- each draw is left, or was made
+    pub draws : clock + p.view.draws ≡ p.view.total * 2 ^ 48
     pub is : p.view.meaning ≡ Some meaning
     pub known : p.view.known ≤ clock
     -- the history has the writers of the books and no others

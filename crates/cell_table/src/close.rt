@@ -4,6 +4,7 @@ ghost use Rattle.std.specs.Prelude.{◌≡◌, ℕ, ◌<◌, length, slice_index
 use crate::meaning::Meaning;
 use crate::pass::Pass;
 use crate::table::CellTable;
+use crate::words::{lock_place, value_place};
 use atomic_table::Closed;
 use std::alloc::Global;
 use std::marker::Model;
@@ -14,16 +15,16 @@ pub struct Contents {
 }
 
 impl Model for Contents {
-    ghost use Rattle.std.specs.Prelude.{◌≡◌, ◌*◌, ◌+◌, length};
+    ghost use Rattle.std.specs.Prelude.{◌≡◌, length};
     ghost use Rattle.std.specs.Mem.Slots.{slots_items, slots_len, IsFull};
-    ghost use Rattle.cell_table.specs.Rule.{values_in, versions_in};
+    ghost use Rattle.cell_table.specs.Rule.{values_in, versions_in, words_for};
     ghost use Rattle.cell_table.specs.Settled.{Words};
 
     ghost Value = { Words };
 
     ghost view = { λ c. record { values = values_in (slots_items c.closed.words); versions = versions_in (slots_items c.closed.words) } };
 
-    ghost invariant = { λ c. IsFull c.closed.words × (slots_len c.closed.slots ≡ 0) × (slots_len c.closed.words ≡ 2 * length (values_in (slots_items c.closed.words)) + 1) × (length (slots_items c.closed.words) ≡ 2 * length (values_in (slots_items c.closed.words)) + 1) };
+    ghost invariant = { λ c. IsFull c.closed.words × (slots_len c.closed.slots ≡ 0) × (slots_len c.closed.words ≡ words_for (length (values_in (slots_items c.closed.words)))) × (length (slots_items c.closed.words) ≡ words_for (length (values_in (slots_items c.closed.words)))) };
 }
 
 impl Drop for Contents {
@@ -39,7 +40,7 @@ impl Contents {
         requires { cell < length self.now.values }
         ensures { result ≡ slice_index self.now.values cell }
     {
-        self.closed.word(2 * cell as usize + 2)
+        self.closed.word(value_place!(cell))
     }
 
     /// The version of the cell: the place of the last writer that wrote it, or 0.
@@ -47,7 +48,7 @@ impl Contents {
         requires { cell < length self.now.values }
         ensures { result ≡ slice_index self.now.versions cell }
     {
-        self.closed.word(2 * cell as usize + 1) / 2
+        self.closed.word(lock_place!(cell)) / 2
     }
 }
 

@@ -66,8 +66,11 @@ pub(crate) fn due_version(entry: HeldCell, drawn: u64) -> u64
 }
 
 /// An undecided plan is dropped with the last held cell.
-pub(crate) fn plan_left<D: Copy>(plan: Option<Plan<D>>, held: &[HeldCell]) -> Option<Plan<D>>
-    ensures { plan_of result ≡ plan_after (pairs_of held.now) (plan_of plan) }
+pub(crate) fn drop_plan<D: Copy>(plan: &mut Option<Plan<D>>, held: &[HeldCell])
+    ensures { plan_of plan.new ≡ plan_after (pairs_of held.now) (plan_of plan.old) }
 {
-    if held.is_empty() { None } else { plan }
+    if !held.is_empty() {
+        return;
+    }
+    *plan = None;
 }

@@ -1,5 +1,5 @@
-//! The held cells of a pass, in ascending order. Each is found in logarithmic time.
-ghost use Rattle.std.specs.Prelude.{◌≡◌, ℕ, ◌+◌, ◌<◌, ◌≤◌, true, false, length, vec_len, vec_capacity};
+//! The held cells of a pass, in ascending order. The last one is found by one look, each other in logarithmic time.
+ghost use Rattle.std.specs.Prelude.{◌≡◌, ℕ, ◌+◌, ◌-◌, ◌<◌, ◌≤◌, true, false, length, IsTrue, vec_len, vec_capacity};
 ghost use Rattle.cell_table.specs.Sorted.{insert_by, IsAscendingBy};
 ghost use Rattle.cell_table.specs.Cells.{has};
 ghost use Rattle.cell_table.specs.Rule.{cells_of};
@@ -11,6 +11,42 @@ use std::alloc::Global;
 
 /// The number of held cells below this one.
 pub(crate) fn find(held: &[HeldCell], cell: u32) -> usize
+    requires { IsAscendingBy held_key held.now }
+    ensures { IsPoint cell held.now result }
+{
+    if ends_below(held, cell) {
+        return held.len();
+    }
+    if ends_with(held, cell) {
+        return held.len() - 1;
+    }
+    search(held, cell)
+}
+
+// Whether every held cell is below this one.
+fn ends_below(held: &[HeldCell], cell: u32) -> bool
+    requires { IsAscendingBy held_key held.now }
+    ensures { IsTrue result → IsPoint cell held.now (length held.now) }
+{
+    if held.is_empty() {
+        return true;
+    }
+    held[held.len() - 1].cell < cell
+}
+
+// Whether the cell is the last one held.
+fn ends_with(held: &[HeldCell], cell: u32) -> bool
+    requires { IsAscendingBy held_key held.now }
+    ensures { IsTrue result → (0 < length held.now) × IsPoint cell held.now (length held.now - 1) }
+{
+    if held.is_empty() {
+        return false;
+    }
+    held[held.len() - 1].cell == cell
+}
+
+// The same by halving.
+fn search(held: &[HeldCell], cell: u32) -> usize
     requires { IsAscendingBy held_key held.now }
     ensures { IsPoint cell held.now result }
 {

@@ -104,6 +104,7 @@ impl<M: Meaning> Pass<M> {
         requires room { length self.old.books + length other.books ≤ self.old.room }
         ensures of { IsPassOf table.now self.new }
         ensures view { (place : ℕ) × (self.new ≡ joined self.old other place self.new.reserved) × (self.old.view.known ≤ place) × (other.view.known ≤ place) × (trail_of self.new ≡ trail_of self.old ++ trail_of other ++ SeatMoved ∷ ClockLoaded place ∷ []) }
+        ensures books { length self.new.books ≡ length self.old.books + length other.books }
         ensures grows { Grows self.old.view self.new.view × Grows other.view self.new.view }
     {
         let Pass {

@@ -2,7 +2,7 @@
 ghost use Rattle.std.specs.Prelude.{◌≡◌, ◌≢◌, ℕ, ◌+◌, ◌-◌, ◌*◌, ◌/◌, ◌%◌, ◌^◌, ◌<◌, ◌≤◌, ◌++◌, [], ◌∷◌, true, false, length, None, MatchResult, OnOk, OnErr, IfErr};
 
 use crate::books::add_entry;
-use crate::entry::{Plan, due_version, entry_of, plan_left};
+use crate::entry::{Plan, drop_plan, due_version, entry_of};
 use crate::held::{add_held, mark_stored, take_held};
 use crate::meaning::Meaning;
 use crate::pass::Pass;
@@ -12,6 +12,7 @@ use crate::plays::{
 };
 use crate::rule::{About, Ruled};
 use crate::view::View;
+use crate::words::{lock_place, value_place};
 use atomic_table::{Seat, Table};
 use std::alloc::Global;
 use std::marker::{Brand, Model};
@@ -27,15 +28,15 @@ pub struct CellTable<M: Meaning> {
 }
 
 impl<M: Meaning> Model for CellTable<M> {
-    ghost use Rattle.std.specs.Prelude.{◌≡◌, ◌+◌, ◌*◌, ◌^◌, ◌<◌, ◌≤◌, length};
-    ghost use Rattle.cell_table.specs.Rule.{values_in};
+    ghost use Rattle.std.specs.Prelude.{◌≡◌, ◌^◌, ◌<◌, ◌≤◌, length};
+    ghost use Rattle.cell_table.specs.Rule.{values_in, words_for};
     ghost use Rattle.cell_table.specs.Pass.{TableState};
 
     ghost Value = { TableState M };
 
     ghost view = { λ t. record { id = t.words.shared.table_id; meaning = t.meaning; opening = values_in t.words.shared.key.words.value.items; callers = t.callers } };
 
-    ghost invariant = { λ t. (t.words.shared.table_id.words ≡ 2 * length (values_in t.words.shared.key.words.value.items) + 1) × (t.words.shared.table_id.slots ≡ 0) × (t.words.shared.key.meaning.value ≡ t.meaning) × (t.words.shared.key.callers ≡ t.callers) × (0 < t.callers) × (t.callers ≤ 4096) × (0 < length (values_in t.words.shared.key.words.value.items)) × (length (values_in t.words.shared.key.words.value.items) ≤ 2 ^ 24) };
+    ghost invariant = { λ t. (t.words.shared.table_id.words ≡ words_for (length (values_in t.words.shared.key.words.value.items))) × (t.words.shared.table_id.slots ≡ 0) × (t.words.shared.key.meaning.value ≡ t.meaning) × (t.words.shared.key.callers ≡ t.callers) × (0 < t.callers) × (t.callers ≤ 4096) × (0 < length (values_in t.words.shared.key.words.value.items)) × (length (values_in t.words.shared.key.words.value.items) ≤ 2 ^ 24) };
 }
 
 impl<M: Meaning> CellTable<M> {
@@ -51,6 +52,13 @@ impl<M: Meaning> CellTable<M> {
     ghost use Rattle.cell_table.specs.Seats.{record_of};
     ghost use Rattle.cell_table.specs.Writers.{writers_in, newest_in};
     ghost use Rattle.cell_table.specs.Pass.{IsPassOf, IsHeld, IsSole, MayPut, with_view, after_put, after_give, trail_of};
+
+    /// What the cells mean.
+    pub fn meaning(&self) -> &M
+        ensures { result.now ≡ self.now.meaning }
+    {
+        &self.meaning
+    }
 
     /// A load of the clock. The word is at least every place that the pass knows.
     pub fn clock(&self, pass: &mut Pass<M>) -> u64
@@ -92,7 +100,7 @@ impl<M: Meaning> CellTable<M> {
     {
         self.words
             .shared
-            .load::<LockLoad>(&mut pass.seat, 2 * cell as usize + 1)
+            .load::<LockLoad>(&mut pass.seat, lock_place!(cell))
     }
 
     /// A load of the cell's value word: the middle of a read, or the value of a held cell.
@@ -108,7 +116,7 @@ impl<M: Meaning> CellTable<M> {
     {
         self.words
             .shared
-            .load::<ValueLoad>(&mut pass.seat, 2 * cell as usize + 2)
+            .load::<ValueLoad>(&mut pass.seat, value_place!(cell))
     }
 
     /// A compare-exchange of the cell's lock word, from a free word. The cell is then held at the version of that word.
@@ -135,7 +143,7 @@ impl<M: Meaning> CellTable<M> {
         let found = self
             .words
             .shared
-            .compare_exchange::<LockExchange>(&mut pass.seat, 2 * cell as usize + 1, from, mine);
+            .compare_exchange::<LockExchange>(&mut pass.seat, lock_place!(cell), from, mine);
         if found != from {
             return Err(found);
         }
@@ -179,9 +187,12 @@ impl<M: Meaning> CellTable<M> {
         ensures grows { Grows pass.old.view pass.new.view }
     {
         mark_stored(&mut pass.held, cell);
-        let Some(plan) = pass.plan.take() else {
+        if pass.plan.is_none() {
             self.put_next(&mut pass.seat, cell, value);
             return;
+        }
+        let Some(plan) = pass.plan.take() else {
+            unreachable!()
         };
         let version = pass.drawn;
         self.put_first::<Brand>(&mut pass.seat, cell, value, &plan, version);
@@ -213,7 +224,7 @@ impl<M: Meaning> CellTable<M> {
         let _ = version;
         self.words
             .shared
-            .store::<FirstValueStore<N>>(seat, 2 * cell as usize + 2, value);
+            .store::<FirstValueStore<N>>(seat, value_place!(cell), value);
     }
 
     // A store after the first one.
@@ -228,7 +239,7 @@ impl<M: Meaning> CellTable<M> {
     {
         self.words
             .shared
-            .store::<NextValueStore>(seat, 2 * cell as usize + 2, value);
+            .store::<NextValueStore>(seat, value_place!(cell), value);
     }
 
     /// A store of the cell's lock word, which gives the cell back: with the drawn version where a decided writer wrote it, else with the version that it had.
@@ -246,8 +257,7 @@ impl<M: Meaning> CellTable<M> {
         let version = due_version(entry, pass.drawn);
         self.words
             .shared
-            .store::<LockStore>(&mut pass.seat, 2 * cell as usize + 1, 2 * version);
-        let plan = pass.plan.take();
-        pass.plan = plan_left(plan, pass.held.as_slice());
+            .store::<LockStore>(&mut pass.seat, lock_place!(cell), 2 * version);
+        drop_plan(&mut pass.plan, pass.held.as_slice());
     }
 }

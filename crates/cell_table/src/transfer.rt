@@ -131,3 +131,10 @@ fn a_transfer_leaves_the_sum_as_it_was(rt: HostRuntime) -> Result<(), Fail> {
     assert_eq!(rt; transfer(rt.alloc())?, (4, 7));
     Ok(())
 }
+
+#[test]
+fn a_table_tells_what_its_cells_mean(rt: HostRuntime) -> Result<(), Fail> {
+    let (table, _pass) = met_again(rt.alloc())?;
+    assert_eq!(rt; table.meaning().sum, 11);
+    Ok(())
+}

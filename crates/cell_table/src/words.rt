@@ -1,5 +1,21 @@
-//! Fields of words.
+//! Fields of words, and where the words of a cell are.
 ghost use Rattle.std.specs.Prelude.{◌≡◌, ℕ, ◌+◌, ◌*◌, ◌/◌, ◌%◌, ◌^◌, ◌<◌, ◌≤◌, ◌≢◌, MatchOption};
+
+// Behind the clock, at place 0, each cell has two words.
+macro_rules! lock_place {
+    ($cell:expr) => {
+        2 * $cell as usize + 1
+    };
+}
+
+macro_rules! value_place {
+    ($cell:expr) => {
+        2 * $cell as usize + 2
+    };
+}
+
+pub(crate) use lock_place;
+pub(crate) use value_place;
 
 /// The version in a free lock word: half of an even word. None exactly for an odd one.
 pub fn free_version(word: u64) -> Option<u64>

@@ -1,7 +1,7 @@
 use Rattle.std.proofs.Common.{arith, ap, ◌∙◌, length}
-use Rattle.cell_table.specs.Pass.{PassState}
+use Rattle.cell_table.specs.Pass.{PassState, book_key}
 use Rattle.cell_table.specs.Seats.{noted_books}
-use Rattle.cell_table.proofs.Ledgers.{noted_length, noted_merge}
+use Rattle.cell_table.proofs.Ledgers.{noted_length, noted_merge, merge_length}
 use Rattle.cell_table.proofs.SplitJoin.{whole_pass, whole_tied, joined_of, joined_trail, idle_was, same_meaning, grows_left, grows_right}
 use Rattle.cell_table.proofs.Passes.{grows_by}
 use Rattle.cell_table.proofs.pass.Pass.join.Goals as goal
@@ -42,6 +42,13 @@ returns-clause-view g c = (
   (let a = ap (λ (z : PassState g.row.M.Denot g.row.M-Done.Denot). z.view.known) c.other.view_is in let l = c.rejoin.ensures.later in let m = l.1 in omega arith),
   joined_trail _ _ _ _ _ c.rejoin.result c.self.view_is c.other.view_is c.rejoin.ensures.view,
 )
+
+pub returns-clause-books : goal.returns-clause-books
+returns-clause-books g c =
+    let joined = (returns-clause-view g c).1 in
+    let merged = merge_length book_key c.args.other.books c.args.self.now.books in
+    let now = ap (λ (z : PassState g.row.M.Denot g.row.M-Done.Denot). length z.books) joined in
+    omega arith
 
 pub returns-clause-grows : goal.returns-clause-grows
 returns-clause-grows g c = let same = same_meaning _ _ _ _ _ c.self.view_is c.other.view_is c.requires.of.0 c.requires.of.1 in let later = c.rejoin.ensures.later in (

@@ -1,4 +1,4 @@
-use Rattle.std.proofs.Common.{arith, ap, ◌∙◌, ◌≡◌, ◌*◌, ℕ}
+use Rattle.std.proofs.Common.{arith, ap, refl, ◌∙◌, ◌≡◌, ◌*◌, ℕ}
 use Rattle.cell_table.specs.Steps.{given}
 use Rattle.cell_table.proofs.LockStore.{gives_word}
 use Rattle.cell_table.proofs.Passes.{same_table, cell_inside, at_lock, grows_given, grows_by}
@@ -21,7 +21,7 @@ store-requires g c = let tied = c.pass.invariant.1 in let due = give_due c.pass.
 pub invariant_of-pass : goal.invariant_of-pass
 invariant_of-pass g c = let tied = c.pass.invariant.1 in let is = at_lock (λ z. c.store.new.seat.me.0 ≡ given c.pass.inside.seat.me.0 z (2 * c.due_version-version.result)) c.args.cell c.store.ensures.2.0 in
     let left = given_tied c.pass.inside.seat.me.0 c.store.new.seat.me.0 _ _ _ _ c.args.cell _ tied is c.take_held-entry.ensures.items in (
-      given_pass g.M.Meaning.lawful g.M.Meaning.explains _ _ _ c.args.cell _ _ _ c.pass.invariant.0 is (plan_gone c.pass.inside.seat.me.0 c.pass.inside.held.items c.take_held-entry.new.held.items c.args.cell c.as_slice.result.now _ c.take-plan.result c.pass.inside.plan tied.held c.take_held-entry.ensures.items c.as_slice.ensures.value c.plan_left.ensures c.take-plan.ensures.value) c.store.ensures.2.1,
+      given_pass g.M.Meaning.lawful g.M.Meaning.explains _ _ _ c.args.cell _ _ _ c.pass.invariant.0 is (plan_gone c.pass.inside.seat.me.0 c.pass.inside.held.items c.take_held-entry.new.held.items c.args.cell c.as_slice.result.now _ c.pass.inside.plan c.pass.inside.plan tied.held c.take_held-entry.ensures.items c.as_slice.ensures.value c.drop_plan.ensures refl) c.store.ensures.2.1,
       left,
       c.pass.invariant.2,
       (let a = c.take_held-entry.ensures.len in let b = c.take_held-entry.ensures.capacity in let f = c.pass.invariant.3 in omega arith),
@@ -32,7 +32,7 @@ pub returns-clause-view : goal.returns-clause-view
 returns-clause-view g c = let tied = c.pass.invariant.1 in let is = at_lock (λ z. c.store.new.seat.me.0 ≡ given c.pass.inside.seat.me.0 z (2 * c.due_version-version.result)) c.args.cell c.store.ensures.2.0 in
     let due = give_due c.pass.inside.seat.me.0 c.pass.inside.held.items _ _ c.args.cell _ _ tied c.pass.invariant.0.written (stored_view _ _ c.pass.view_is c.requires.stored) (held_now _ _ _ _ _ c.args.cell c.pass.view_is tied c.requires.held) c.take_held-entry.ensures.stored c.take_held-entry.ensures.version in
     given_of _ _ c.store.new.seat.me.0 _ c.args.cell _ _ _ c.pass.view_is c.store.ensures.0 is (ap (λ (z : ℕ). 2 * z) (c.due_version-version.ensures ∙ due)) (let a = c.take_held-entry.ensures.len in let b = c.take_held-entry.ensures.capacity in let f = c.pass.invariant.3 in omega arith)
-    (plan_gone c.pass.inside.seat.me.0 c.pass.inside.held.items c.take_held-entry.new.held.items c.args.cell c.as_slice.result.now _ c.take-plan.result c.pass.inside.plan tied.held c.take_held-entry.ensures.items c.as_slice.ensures.value c.plan_left.ensures c.take-plan.ensures.value)
+    (plan_gone c.pass.inside.seat.me.0 c.pass.inside.held.items c.take_held-entry.new.held.items c.args.cell c.as_slice.result.now _ c.pass.inside.plan c.pass.inside.plan tied.held c.take_held-entry.ensures.items c.as_slice.ensures.value c.drop_plan.ensures refl)
 
 pub returns-clause-step : goal.returns-clause-step
 returns-clause-step g c = let tied = c.pass.invariant.1 in let is = at_lock (λ z. c.store.new.seat.me.0 ≡ given c.pass.inside.seat.me.0 z (2 * c.due_version-version.result)) c.args.cell c.store.ensures.2.0 in
