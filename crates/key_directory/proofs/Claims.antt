@@ -16,6 +16,7 @@ use Rattle.key_directory.specs.Directory.{claim_of, Claimed, FoundOther, Visits,
 use Rattle.key_directory.specs.Visits.{Walked}
 use Rattle.key_directory.proofs.Places.{walk_inside, walk_reaches}
 use Rattle.key_directory.proofs.Keeping.{found_stands, one_position}
+use Rattle.key_directory.proofs.Visiting.{looks}
 use Rattle.key_directory.proofs.Walking.{claimed_alone}
 
 module _ (passes : ℕ → ℕ → Type 0) (v : View) (kn : Knows passes v) where
@@ -103,7 +104,7 @@ module _ (passes : ℕ → ℕ → Type 0) (r k : ℕ) (v w : View) (table table
         full = (λ f. absurd (cc), λ f. claimed_alone passes w kn r k p mine (subst (λ (z : List Step). FoundOther z r p k) (sym trail) (Rattle.key_directory.proofs.Visiting.other_right v.trail t.steps r p k (subst (λ (z : List Step). FoundOther z r p k) e (f p inside)))) (IsErr (ok_or (Some p) full_of)));
         capacity = tt;
         err = tt;
-        steps = (t.tries, t.ends.0, t.ends.1, subst (Visits r c k (suc t.tries)) (sym e) t.visits);
+        steps = (t.tries, t.ends.0, t.ends.1, looks r c k (suc t.tries) (steps_since old new) (subst (Visits r c k (suc t.tries)) (sym e) t.visits));
         quick = λ f. let g = at_first f in e ∙ (t.known (above (kept k (walk c k 0) g)) g ∙ first_load);
       }
   told None t = let trail : w.trail ≡ v.trail ++ t.steps = ap (λ (u : View). u.trail) t.view in let e = since t.steps trail in
@@ -120,6 +121,6 @@ module _ (passes : ℕ → ℕ → Type 0) (r k : ℕ) (v w : View) (table table
         full = (λ _. each, λ _. cc);
         capacity = refl;
         err = claims;
-        steps = subst (λ (z : ℕ). Visits r c k z (steps_since old new)) t.ends (subst (Visits r c k t.tries) (sym e) t.visits);
+        steps = looks r c k c (steps_since old new) (subst (λ (z : ℕ). Visits r c k z (steps_since old new)) t.ends (subst (Visits r c k t.tries) (sym e) t.visits));
         quick = λ f. let g = at_first f in e ∙ (t.known (above (subst (λ (z : List Claim). Claimed z r k (walk c k 0)) (sym claims) g)) g ∙ first_load);
       }

@@ -5,4 +5,5 @@ pub mod Visiting
 pub mod Walking
 pub mod Ends
 pub mod Claims
+pub mod Positions
 pub mod Closing

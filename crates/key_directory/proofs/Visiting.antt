@@ -1,5 +1,5 @@
 -- What the visit of a position tells, and a walk.
-use Rattle.std.proofs.Common.{◌≡◌, ◌≢◌, ℕ, zero, suc, ◌+◌, Bool, true, false, eqb, List, [], ◌∷◌, ◌++◌, ◌⊎◌, inl, inr, ⊎_elim, sym, refl, ap, ◌∙◌, subst, arith, eq-eqb, ne_eqb, Contains, append_assoc}
+use Rattle.std.proofs.Common.{◌≡◌, ◌≢◌, ℕ, zero, suc, ◌+◌, ◌*◌, ◌≤◌, Bool, true, false, eqb, List, [], ◌∷◌, ◌++◌, ◌⊎◌, inl, inr, ⊎_elim, sym, refl, ap, ◌∙◌, subst, arith, eq-eqb, ne_eqb, Contains, append_assoc, length, length-append}
 use mathlib.Core.Logic.{dite}
 use native.Mathlib.Decide.{ℕ_discrete}
 use Rattle.std.proofs.lemmas.List.Elements.{Contains-append_left, Contains-append_right, Contains-push}
@@ -9,7 +9,7 @@ use Rattle.key_directory.specs.declared.view.Step.TheVariants.{Load, Exchange}
 use Rattle.key_directory.specs.declared.view.View.{View}
 use Rattle.key_directory.specs.Words.{capacity_of, walk}
 use Rattle.key_directory.specs.Moves.{with_step, with_claim, SeatMe, LoadTold, ExchangeTold}
-use Rattle.key_directory.specs.Directory.{Found, FoundOther, taken, free}
+use Rattle.key_directory.specs.Directory.{Found, FoundOther, IsVisit, taken, free, Visits, Looks}
 use Rattle.key_directory.specs.Directory.{IsReached}
 use Rattle.key_directory.specs.Visits.{Visited, visited_view}
 
@@ -36,6 +36,17 @@ reached_more cs trail steps c f = record {
   there = f.there;
   before = λ n l. other_left trail steps c.region (walk (capacity_of cs c.region) c.key n) c.key (f.before n l);
 }
+
+visit_bounded : {r p : ℕ} {steps : List Step} → IsVisit r p steps → length steps ≤ 2
+visit_bounded (taken found l) = omega arith
+visit_bounded (free found) = omega arith
+
+visits_bounded : (r c k n : ℕ) (steps : List Step) → Visits r c k n steps → length steps ≤ 2 * n
+visits_bounded r c k zero steps v = let e = ap length v in omega arith
+visits_bounded r c k (suc n) steps v = let one = visit_bounded v.3 in let more = visits_bounded r c k n v.0 v.2 in let e = ap length v.4 in omega (arith, length-append v.0 v.1)
+
+pub looks : (r c k n : ℕ) (steps : List Step) → Visits r c k n steps → Looks r c k n steps
+looks r c k n steps v = record { visits = v; bounded = visits_bounded r c k n steps v }
 
 module _ (passes : ℕ → ℕ → Type 0) (c : Claim) where
   other_found : (step : ℕ → Step) → ((n k : ℕ) → n ≡ k + 1 → Found (step n ∷ []) c.region c.position k) → (n : ℕ) → n ≢ 0 → n ≢ c.key + 1 → FoundOther (step n ∷ []) c.region c.position c.key

@@ -1,5 +1,5 @@
 -- A directory, its passes and its list of keys as contracts see them.
-use Rattle.std.specs.Prelude.{◌≡◌, ◌≢◌, ℕ, zero, suc, ◌+◌, ◌<◌, ◌⊎◌, List, [], ◌∷◌, ◌++◌, length, drop, slice_index, Option, Some, None, Result, Ok, Err, Contains}
+use Rattle.std.specs.Prelude.{◌≡◌, ◌≢◌, ℕ, zero, suc, ◌+◌, ◌*◌, ◌<◌, ◌≤◌, ◌==◌, ◌&&◌, ◌⊎◌, List, [], ◌∷◌, ◌++◌, length, drop, slice_index, Option, Some, None, Result, Ok, Err, Contains, if◌then◌else◌}
 use Rattle.atomic_table.specs.Seated.{TableId}
 use Rattle.key_directory.specs.Words.{capacity_of, word_number, walk, OnlyBelow, IsPosition}
 use Rattle.key_directory.specs.declared.view.Claim.{Claim}
@@ -40,6 +40,11 @@ claim_of region key position = record { region = region; key = key; position = p
 abbrev pub Claimed : List Claim → ℕ → ℕ → ℕ → Type 0
 Claimed claims region key position = Contains claims (claim_of region key position)
 
+-- the position that the claims have for the key, if they have one
+abbrev pub position_in : List Claim → ℕ → ℕ → Option ℕ
+position_in [] region key = None
+position_in (c ∷ cs) region key = if (c.region == region) && (c.key == key) then Some c.position else position_in cs region key
+
 -- a step found the key at the position
 abbrev pub Found : List Step → ℕ → ℕ → ℕ → Type 0
 Found steps region position key = Contains steps (Load region position (key + 1)) ⊎ Contains steps (Exchange region position (key + 1))
@@ -61,6 +66,11 @@ abbrev pub Visits : ℕ → ℕ → ℕ → ℕ → List Step → Type 0
 Visits region capacity key zero steps = steps ≡ []
 Visits region capacity key (suc n) steps = (before : List Step) × (last : List Step) × Visits region capacity key n before × IsVisit region (walk capacity key n) last × (steps ≡ before ++ last)
 
+-- the steps looked at so many positions of the key's walk, and are at most two a position
+pub record Looks (region capacity key positions : ℕ) (steps : List Step) : Type 0 where
+  pub visits : Visits region capacity key positions steps
+  pub bounded : length steps ≤ 2 * positions
+
 -- The position is the first of the key's walk that no other key was found to hold: each one before it was found to hold another key
 pub record IsReached (capacities : List ℕ) (steps : List Step) (c : Claim) : Type 0 where
   pub tries : ℕ
@@ -74,8 +84,8 @@ AreAllOthers capacities steps region key = (position : ℕ) → position < capac
 
 -- the steps of a claim that gave this answer: it visits the positions of the walk up to the one answered, or all of them
 abbrev pub Walks : {E : Type 0} → List ℕ → ℕ → ℕ → List Step → Result ℕ E → Type 0
-Walks capacities region key steps (Ok position) = (tries : ℕ) × (tries < capacity_of capacities region) × (walk (capacity_of capacities region) key tries ≡ position) × Visits region (capacity_of capacities region) key (suc tries) steps
-Walks capacities region key steps (Err e) = Visits region (capacity_of capacities region) key (capacity_of capacities region) steps
+Walks capacities region key steps (Ok position) = (tries : ℕ) × (tries < capacity_of capacities region) × (walk (capacity_of capacities region) key tries ≡ position) × Looks region (capacity_of capacities region) key (suc tries) steps
+Walks capacities region key steps (Err e) = Looks region (capacity_of capacities region) key (capacity_of capacities region) steps
 
 -- Each claim is of a position that is there, for a key that may stand there. Within a region one key has one position and one position one key, and where only keys below the capacity pass, a key has the position of its own number
 pub record AreOneToOne (passes : ℕ → ℕ → Type 0) (capacities : List ℕ) (claims : List Claim) : Type 0 where

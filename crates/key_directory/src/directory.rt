@@ -94,7 +94,7 @@ impl<K: KeyTest> Directory<K> {
         ensures capacity { IfErr result (λ full. full.capacity ≡ capacity_of self.now.capacities region) }
         ensures err { OnErr result (pass.new.claims ≡ pass.old.claims) }
 
-        // One load a position and at most one compare-exchange. Where the pass claimed the key at its first position, one load.
+        // One load a position looked at and at most one compare-exchange. Where the pass claimed the key at its first position, one load.
         ensures steps { Walks self.now.capacities region key (steps_since pass.old pass.new) result }
         ensures quick { let first = key % capacity_of self.now.capacities region in Claimed pass.old.claims region key first
             → steps_since pass.old pass.new ≡ Load region first (key + 1) ∷ [] }

@@ -1,7 +1,7 @@
 //! The right to claim.
-ghost use Rattle.std.specs.Prelude.{◌≡◌, ◌+◌, ◌-◌, ◌<◌, ◌≤◌, ◌↔◌, [], ◌∷◌, ◌++◌, IsTrue, IsOk, IfOk};
+ghost use Rattle.std.specs.Prelude.{◌≡◌, ℕ, ◌+◌, ◌-◌, ◌<◌, ◌≤◌, ◌↔◌, [], ◌∷◌, ◌++◌, Some, IsTrue, IsOk, IfOk};
 ghost use Rattle.key_directory.specs.declared.view.Step.TheVariants.{Meeting};
-ghost use Rattle.key_directory.specs.Directory.{AreOneToOne};
+ghost use Rattle.key_directory.specs.Directory.{AreOneToOne, Claimed, position_in};
 ghost use Rattle.key_directory.specs.Layouts.{pass_view, IsPass};
 
 use crate::directory::Directory;
@@ -115,9 +115,10 @@ impl<K: KeyTest> KeyPass<K> {
         self.callers += callers;
     }
 
-    /// What the claims of a pass say together: in a region each key has one position and each position one key.
-    pub fn claims_stand(&self)
+    /// What the claims of a pass say together: in a region each key has one position, and each position one key.
+    pub fn claims_stand_law(&self)
         ensures claims { AreOneToOne K.passes self.now.directory.capacities self.now.claims }
+        ensures positions { (region key position : ℕ) → Claimed self.now.claims region key position ↔ (position_in self.now.claims region key ≡ Some position) }
         ensures callers { (0 < self.now.callers) × (self.now.callers ≤ self.now.directory.callers) }
     {
         let _ = &self.seat;

@@ -84,7 +84,7 @@ fn two_passes_claim_one_key_at_one_position(rt: HostRuntime) -> Result<(), Fail>
     expect_claim(&rt, &directory, &mut first, 4, Ok(0));
     expect_claim(&rt, &directory, &mut first, 8, Ok(1));
     first.join(&directory, second);
-    first.claims_stand();
+    first.claims_stand_law();
     assert_eq!(rt; (first.callers_held(), first.room()), (3, 3));
     assert!(rt; first.is_sole(&directory));
     let keys = directory.close(first);

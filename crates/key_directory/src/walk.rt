@@ -38,6 +38,18 @@ fn visit<K: KeyTest, N: Sought>(
     found == 0 || found == key_word
 }
 
+/// Where the key's walk begins. Most keys are below the capacity, and a comparison costs a tenth of a remainder.
+fn first_position(key: u64, capacity: u32) -> u32
+    requires { 0 < capacity }
+    ensures { result ≡ key % capacity }
+{
+    if key < capacity as u64 {
+        key as u32
+    } else {
+        (key % capacity as u64) as u32
+    }
+}
+
 /// A position counted on past the region's end.
 fn wrapped(position: u32, capacity: u32) -> u32
     requires { position < 2 * capacity }
@@ -71,7 +83,7 @@ pub fn find_place<K: KeyTest>(
     if capacity == 0 {
         return None;
     }
-    let first = (key % capacity as u64) as u32;
+    let first = first_position(key, capacity);
     for tries in 0..capacity {
         let position = wrapped(first + tries, capacity);
         let claim = Claim {

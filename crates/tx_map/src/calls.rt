@@ -253,7 +253,7 @@ impl MapPart {
     {
         match directory.claim(keys, self.region, key) {
             Ok(position) => {
-                keys.claims_stand();
+                keys.claims_stand_law();
                 Ok(self.base + position)
             }
             Err(full) => Err(MapStop::KeysFull {

@@ -14,4 +14,4 @@ returns-in-Ok-clause-keys g c = claims_key c.args.self.now _ c.args.key c.args.k
 pub returns-in-Ok-clause-only : goal.returns-in-Ok-clause-only
 returns-in-Ok-clause-only g c position claimed =
     let mine : Claimed c.claim.new.pass.claims c.args.self.now.region c.args.key c.in-Ok.position = claimed_last _ _ _ _ _ c.in-Ok.ensures.claimed in
-    ap (λ (p : ℕ). c.args.self.now.base + p) (c.claims_stand.ensures.claims.same c.args.self.now.region c.args.key c.in-Ok.position position mine claimed)
+    ap (λ (p : ℕ). c.args.self.now.base + p) (c.claims_stand_law.ensures.claims.same c.args.self.now.region c.args.key c.in-Ok.position position mine claimed)

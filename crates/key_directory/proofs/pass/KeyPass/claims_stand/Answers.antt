@@ -1,5 +1,0 @@
-use Rattle.key_directory.proofs.Claims.{one_to_one}
-use Rattle.key_directory.proofs.pass.KeyPass.claims_stand.Goals as goal
-
-pub returns-clause-claims : goal.returns-clause-claims
-returns-clause-claims g c = rw (← c.self.view_is) (one_to_one g.K.KeyTest.passes _ c.self.invariant.knows)
