@@ -4,3 +4,6 @@ pub mod Seen
 pub mod Stored
 pub mod Tx
 pub mod Parts
+pub mod Calls
+pub mod Words
+pub mod Facts
