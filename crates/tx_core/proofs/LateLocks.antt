@@ -1,10 +1,11 @@
 -- Locks of written cells, at the places that the writes reserved.
-use Rattle.std.proofs.Common.{◌≡◌, ℕ, zero, suc, ◌+◌, ◌*◌, ◌<◌, ◌≤◌, true, [], ◌∷◌, ◌++◌, length, slice_index, None, IsSome, All, inl, inr, refl, sym, ap, ◌∙◌, arith}
+use Rattle.std.proofs.Common.{◌≡◌, ℕ, zero, suc, ◌+◌, ◌*◌, ◌<◌, ◌≤◌, true, [], ◌∷◌, ◌++◌, length, slice_index, None, IsSome, All, inl, inr, refl, sym, ap, subst, ◌∙◌, arith}
 use Rattle.std.proofs.Math.Decide.{ℕ_discrete}
 use Rattle.std.proofs.lemmas.Bool.{cases_lt}
 use Rattle.std.proofs.lemmas.Bool.Decides.{nat_tests}
 use Rattle.std.specs.Map.{keys_of}
 use Rattle.cell_table.specs.Cells.{has}
+use Rattle.cell_table.specs.Sorted.{Among}
 use Rattle.cell_table.specs.Rule.{cells_of}
 use Rattle.cell_table.specs.declared.view.Stage.TheVariants.{Open}
 use Rattle.cell_table.specs.Pass.{TableState, PassState, IsPassOf, IsHeld, trail_of}
@@ -14,6 +15,8 @@ use Rattle.attempt_lists.specs.Observed.{Observed}
 use Rattle.tx_core.specs.Causes.{GrewBy}
 use Rattle.tx_core.specs.Seen.{Takes, HoldsOnly, SameOthers}
 use Rattle.tx_core.specs.Tx.{IsAttempt}
+use Rattle.tx_core.specs.Calls.{newly_held}
+use Rattle.tx_core.specs.Facts.{length_insert}
 use Rattle.tx_core.proofs.Looks.{grows_trans}
 use Rattle.tx_core.proofs.Found.{grew_none, grew_more, grew_trans}
 use Rattle.tx_core.proofs.Locking.{attempt_locks_known, has_insert, no_entry}
@@ -23,6 +26,23 @@ pub cell_there : (P : ℕ → Type 0) (es : Entries) (i : ℕ) → All P (keys_o
 cell_there P [] i all lt = absurd (omega arith)
 cell_there P (e ∷ es) zero all lt = all 0 0 (omega arith)
 cell_there P (e ∷ es) (suc i) all lt = cell_there P es i (λ k d l. all (suc k) d (omega arith)) (omega arith)
+
+module _ {M D : Type 0} where
+  -- the cells that came to be held, and two steps for each
+  abbrev pub Counted : PassState M D → PassState M D → Type 0
+  Counted p q = (length p.view.held ≤ length q.view.held) × GrewBy (2 * newly_held p q) (trail_of p) (trail_of q)
+
+  pub counted_none : (p q : PassState M D) → q ≡ p → Counted p q
+  counted_none p q same = subst (λ (s : PassState M D). Counted p s) (sym same) (omega arith, grew_more 0 (2 * newly_held p p) (trail_of p) (trail_of p) (omega arith) (grew_none (trail_of p)))
+
+  pub counted_trans : (p q r : PassState M D) → Counted p q → Counted q r → Counted p r
+  counted_trans p q r a b = (omega (arith, a.0, b.0), grew_more (2 * newly_held p q + 2 * newly_held q r) (2 * newly_held p r) (trail_of p) (trail_of r) (omega (arith, a.0, b.0)) (grew_trans (2 * newly_held p q) (2 * newly_held q r) (trail_of p) (trail_of q) (trail_of r) a.1 b.1))
+
+  pub counted_takes : (p q : PassState M D) (cell u : ℕ) → Takes p q cell u → GrewBy 2 (trail_of p) (trail_of q) → Counted p q
+  counted_takes p q cell u t grew = let long = ap length t.held ∙ length_insert (cell, u) p.view.held in (omega (arith, long), grew_more 2 (2 * newly_held p q) (trail_of p) (trail_of q) (omega (arith, long)) grew)
+
+  pub counted_to_stop : (p q r : PassState M D) → Counted p q → r.view.held ≡ q.view.held → GrewBy 2 (trail_of q) (trail_of r) → GrewBy (2 * newly_held p r + 2) (trail_of p) (trail_of r)
+  counted_to_stop p q r a same grew = let long = ap length same in grew_more (2 * newly_held p q + 2) (2 * newly_held p r + 2) (trail_of p) (trail_of r) (omega (arith, long)) (grew_trans (2 * newly_held p q) 2 (trail_of p) (trail_of q) (trail_of r) a.1 grew)
 
 module _ {M D : Type 0} where
   pub kept_takes : (p q : PassState M D) (cell u c : ℕ) → Takes p q cell u → IsHeld p c → IsHeld q c
@@ -57,7 +77,7 @@ word_there (e ∷ es) (suc i) lt = grind (arith, nat_tests, word_there es i (ome
 
 module _ {M D : Type 0} where
   pub holds_only_none : (p : PassState M D) → HoldsOnly p p
-  holds_only_none p = record { is = refl; grows = record { meaning = refl; opening = refl; total = refl; known = omega arith; values = λ t h. h; validations = λ t h. h }; books = refl; draws = refl; known = refl; stage = refl }
+  holds_only_none p = record { is = refl; grows = record { meaning = refl; opening = refl; total = refl; known = omega arith; values = λ t h. h; validations = λ t h. h }; books = refl; draws = refl; known = refl; stage = refl; begun = refl }
 
   pub holds_only_trans : (p q r : PassState M D) → HoldsOnly p q → HoldsOnly q r → HoldsOnly p r
   holds_only_trans p q r a b = record {
@@ -67,6 +87,7 @@ module _ {M D : Type 0} where
     draws = b.draws ∙ a.draws;
     known = b.known ∙ a.known;
     stage = b.stage ∙ a.stage;
+    begun = b.begun ∙ a.begun;
   }
 
 -- After n written cells were tried and m of them are held
@@ -76,7 +97,7 @@ pub record IsLocking {M D : Type 0} (table : TableState M) (version : ℕ) (read
   pub locked : (i : ℕ) → i < m → IsHeld p (cell_at writes.parent i)
   pub pass : HoldsOnly start p
   pub others : (c : ℕ) → word_at writes.parent c ≡ None → has c (cells_of p.view.held) ≡ has c (cells_of start.view.held)
-  pub kept : (c : ℕ) → IsHeld start c → IsHeld p c
+  pub kept : (t : ℕ × ℕ) → Among t start.view.held → Among t p.view.held
   pub places : held.reserved ≤ p.places
   pub left : room ≤ held.reserved + n
   pub grew : GrewBy (2 * n) (trail_of start) (trail_of p)
@@ -89,21 +110,21 @@ module _ {M D : Type 0} (table : TableState M) (version : ℕ) (reads : Observed
     locked = λ i lt. absurd (omega arith);
     pass = holds_only_none start;
     others = λ c none. refl;
-    kept = λ c h. h;
+    kept = λ t h. h;
     places = places;
     left = omega arith;
     grew = grew_none (trail_of start);
   }
 
   -- one more cell was tried
-  pub locking_tries : (n m : ℕ) (p q : PassState M D) (held more : Listed) → IsLocking table version reads writes start room n m p held → n < length writes.parent → IsAttempt table q version reads writes more true → HoldsOnly p q → SameOthers p q (cell_at writes.parent n) → ((c : ℕ) → IsHeld p c → IsHeld q c) → more.reserved ≤ q.places → held.reserved ≤ more.reserved + 1 → GrewBy 2 (trail_of p) (trail_of q) → IsLocking table version reads writes start room (n + 1) m q more
-  locking_tries n m p q held more l lt a only same kept places used grew = record {
+  pub locking_tries : (n m : ℕ) (p q : PassState M D) (held more : Listed) → IsLocking table version reads writes start room n m p held → n < length writes.parent → IsAttempt table q version reads writes more true → HoldsOnly p q → SameOthers p q (cell_at writes.parent n) → ((c : ℕ) → IsHeld p c → IsHeld q c) → ((t : ℕ × ℕ) → Among t p.view.held → Among t q.view.held) → more.reserved ≤ q.places → held.reserved ≤ more.reserved + 1 → GrewBy 2 (trail_of p) (trail_of q) → IsLocking table version reads writes start room (n + 1) m q more
+  locking_tries n m p q held more l lt a only same still kept places used grew = record {
     attempt = a;
     undrawn = only.stage ∙ l.undrawn;
-    locked = λ i low. kept _ (l.locked i low);
+    locked = λ i low. still _ (l.locked i low);
     pass = holds_only_trans start p q l.pass only;
     others = λ c none. same c (λ is. not_there c none is) ∙ l.others c none;
-    kept = λ c h. kept c (l.kept c h);
+    kept = λ t h. kept t (l.kept t h);
     places = places;
     left = omega (arith, l.left, used);
     grew = grew_more (2 * n + 2) _ _ _ (omega arith) (grew_trans (2 * n) 2 _ _ _ l.grew grew);

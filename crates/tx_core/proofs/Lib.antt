@@ -12,3 +12,4 @@ pub mod Storing
 pub mod Increments
 pub mod Providing
 pub mod SeenWords
+pub mod Calling

@@ -15,6 +15,7 @@ use Rattle.cell_table.specs.Pass.{TableState, PassState, IsPassOf}
 use Rattle.attempt_lists.specs.Cells.{Entries, Listed, word_at, word_of, cell_at}
 use Rattle.attempt_lists.specs.Levels.{Levels}
 use Rattle.attempt_lists.specs.Observed.{Observed}
+use Rattle.tx_core.specs.Causes.{begun_of}
 use Rattle.tx_core.specs.Seen.{LooksOnly, IsSeen, Takes, HoldsOnly, SameOthers}
 use Rattle.tx_core.specs.Tx.{IsAttempt}
 use Rattle.tx_core.proofs.Looks.{grows_trans, seen_grows}
@@ -68,6 +69,7 @@ module _ {M D : Type 0} where
     draws = b.1.draws ∙ a.draws;
     known = b.1.known ∙ a.known;
     stage = b.1.stage ∙ a.stage;
+    begun = b.1.begun ∙ a.begun;
     held = b.1.held ∙ a.held;
     other = a.other;
   }
@@ -82,6 +84,7 @@ module _ {M D : Type 0} where
         draws = t.draws ∙ ap (λ (v : View M D). v.draws) view;
         known = t.known ∙ ap (λ (v : View M D). v.known) view;
         stage = t.stage ∙ ap (λ (v : View M D). v.stage) view;
+        begun = t.begun ∙ ap (λ (v : View M D). begun_of v.trail) view;
       }
 
   pub others_takes : (p mid q : PassState M D) (c u : ℕ) → mid ≡ record p { places = mid.places } → Takes mid q c u → SameOthers p q c

@@ -14,6 +14,7 @@ use Rattle.cell_table.specs.Pass.{PassState, with_view}
 use Rattle.cell_table.specs.Cells.{has}
 use Rattle.cell_table.specs.Rule.{cells_of}
 use Rattle.cell_table.specs.Steps.{taken, drawn, validate_all, validate_open, clocked}
+use Rattle.tx_core.specs.Causes.{begun_of}
 use Rattle.tx_core.specs.Seen.{IsLooked, LooksOnly, KnowsMore, StandsAt, IsSeen, Takes}
 use Rattle.std.proofs.lemmas.Bool.{cases_lt}
 
@@ -62,6 +63,7 @@ module _ {M D : Type 0} where
         known = refl;
         held = refl;
         stage = refl;
+        begun = refl;
       }
       at false = record {
         grows = record { meaning = refl; opening = refl; total = refl; known = omega arith; values = λ t h. h; validations = λ t h. h };
@@ -70,6 +72,7 @@ module _ {M D : Type 0} where
         known = refl;
         held = refl;
         stage = refl;
+        begun = refl;
       }
 
   pub valued_is : (v : View M D) (c x : ℕ) → IsLooked v (valued v c x)
@@ -80,6 +83,7 @@ module _ {M D : Type 0} where
     known = refl;
     held = refl;
     stage = refl;
+    begun = refl;
   }
 
   pub missed_is : (v : View M D) (c r : ℕ) → IsLooked v (missed v c r)
@@ -90,6 +94,7 @@ module _ {M D : Type 0} where
     known = refl;
     held = refl;
     stage = refl;
+    begun = refl;
   }
     where
       at : (b : Bool) → HasAll v.validations (cond b (add_validation c (r / 2) v.known v.validations) v.validations)
@@ -114,6 +119,7 @@ module _ {M D : Type 0} where
     known = b.known ∙ a.known;
     held = b.held ∙ a.held;
     stage = b.stage ∙ a.stage;
+    begun = b.begun ∙ a.begun;
   }
 
   pub looks_trans : (p q r : PassState M D) → LooksOnly p q → LooksOnly q r → LooksOnly p r
@@ -197,6 +203,7 @@ module _ {M D : Type 0} where
         draws = ap (λ (v : View M D). v.draws) at;
         known = ap (λ (v : View M D). v.known) at;
         stage = ap (λ (v : View M D). v.stage) at;
+        begun = ap (λ (v : View M D). begun_of v.trail) at;
         held = ap (λ (v : View M D). v.held) at;
         other = other;
       }
@@ -209,6 +216,7 @@ module _ {M D : Type 0} where
     draws = b.draws ∙ a.1.draws;
     known = b.known ∙ a.1.known;
     stage = b.stage ∙ a.1.stage;
+    begun = b.begun ∙ a.1.begun;
     held = b.held ∙ ap (λ h. insert_by cell_key (c, u) h) a.1.held;
     other = rw (← a.1.held) b.other;
   }

@@ -1,20 +1,21 @@
 -- Which calls of an attempt may follow, what the attempt knows, and what a call leaves of it.
-use Rattle.std.specs.Prelude.{◌≡◌, ◌≢◌, ℕ, ◌≤◌, ◌+◌, Bool, true, false, List, [], ◌++◌, length, slice_index, Option, Some, None, IsSome, Result, Ok, Err}
+use Rattle.std.specs.Prelude.{◌≡◌, ◌≢◌, ℕ, ◌<◌, ◌≤◌, ◌+◌, ◌-◌, ◌*◌, ◌⊎◌, Bool, true, false, List, [], ◌++◌, length, slice_index, Option, Some, None, IsSome, Result, Ok, Err}
 use Rattle.std.specs.Option.{option_or}
 use Rattle.cell_table.specs.Cells.{has, after}
-use Rattle.cell_table.specs.Sorted.{Each, Among}
+use Rattle.cell_table.specs.Sorted.{Each, Among, insert_by}
 use Rattle.cell_table.specs.Rule.{cells_of, callers_of}
-use Rattle.cell_table.specs.Steps.{Grows}
+use Rattle.cell_table.specs.Steps.{Grows, Observes, cell_key}
+use Rattle.cell_table.specs.declared.view.Stage.TheVariants.{Drawn}
 use Rattle.cell_table.specs.Pass.{PassState, IsHeld, IsSole, trail_of}
-use Rattle.attempt_lists.specs.Cells.{Entries, word_at}
+use Rattle.attempt_lists.specs.Cells.{Entries, word_at, cell_at, word_of}
 use Rattle.attempt_lists.specs.Parts.{Waiting, waiting_of, marked_of}
 use Rattle.tx_core.specs.declared.spare.Spare.{Spare}
 use Rattle.tx_core.specs.declared.stop.Stop.{Stop}
 use Rattle.tx_core.specs.declared.stop.Stop.TheVariants.{Held, Newer, Memory}
 use Rattle.tx_core.specs.declared.stop.TxState.{TxState}
 use Rattle.tx_core.specs.declared.stop.TxState.TheVariants.{Running, Child, ChildStopped, Stopped}
-use Rattle.tx_core.specs.Causes.{CausedSince, GrewBy}
-use Rattle.tx_core.specs.Tx.{Attempt}
+use Rattle.tx_core.specs.Causes.{CausedSince, IsFound, GrewBy, begun_of}
+use Rattle.tx_core.specs.Tx.{Attempt, Observed}
 
 -- ---- how an attempt stands
 
@@ -96,6 +97,18 @@ module _ {M D : Type 0} where
   abbrev pub NothingWaits : Attempt M D → Type 0
   NothingWaits a = (part : ℕ) → waiting_of a.additions part ≡ []
 
+  -- how long the trail was when the attempt began: before its commit the clock was loaded then for the last time
+  abbrev pub begun : Attempt M D → ℕ
+  begun a = begun_of a.pass.view.trail
+
+  -- the stop was found in this attempt, and has its cause there
+  abbrev pub IsCausedInAttempt : Attempt M D → Stop → Type 0
+  IsCausedInAttempt a stop = CausedSince (callers_of a.pass.view.books) a.version (begun a) (trail_of a.pass) stop × IsFound stop
+
+  -- a version was drawn, and all that was observed stands just before it
+  abbrev pub IsDrawn : Attempt M D → ℕ → Type 0
+  IsDrawn a d = (a.pass.view.stage ≡ Drawn d) × ((i : ℕ) → i < length a.observations → Observes a.pass.view (cell_at a.observations i) (word_of a.observations i) (d - 1))
+
   -- each cell that is written is held
   abbrev pub HoldsWrites : Attempt M D → Type 0
   HoldsWrites a = (c : ℕ) → IsSome (word_at a.writes c) → IsHeld a.pass c
@@ -107,6 +120,27 @@ module _ {M D : Type 0} where
   IsUnseen a Memory = ⊥
 
   -- ---- what a call leaves of an attempt
+
+  -- the attempt goes on as it was but for what it observed, wrote and holds
+  pub record Stays (old new : Attempt M D) : Type 0 where
+    pub table : new.table ≡ old.table
+    pub version : new.version ≡ old.version
+    pub notes : new.notes ≡ old.notes
+    pub additions : new.additions ≡ old.additions
+    pub spare : new.spare ≡ old.spare
+    pub committing : new.committing ≡ old.committing
+
+  -- the attempt is as before, or observed a cell of which it had nothing
+  abbrev pub MayObserve : Attempt M D → Attempt M D → ℕ → Type 0
+  MayObserve old new cell = (new ≡ old) ⊎ ((word_at old.writes cell ≡ None) × (word_at old.observations cell ≡ None) × (x : ℕ) × Observed old new cell x)
+
+  -- the cell came to be held, at the version u
+  abbrev pub Locks : Attempt M D → Attempt M D → ℕ → ℕ → Type 0
+  Locks old new cell u = new.pass.view.held ≡ insert_by cell_key (cell, u) old.pass.view.held
+
+  -- how many cells came to be held
+  abbrev pub newly_held : PassState M D → PassState M D → ℕ
+  newly_held p q = length q.view.held - length p.view.held
 
   -- what was held is held
   abbrev pub KeepsHeld : Attempt M D → Attempt M D → Type 0
@@ -158,10 +192,12 @@ module _ {M D : Type 0} where
     pub ends : EndsAt P old new stop
     pub does : StepsAt P n old new
     pub known : new.pass.view.known ≡ old.pass.view.known
+    pub began : begun new ≡ begun old
 
   -- What a call leaves that looks at cells with P, and holds none
   pub record LooksAt (P : ℕ → Type 0) (n : ℕ) (old new : Attempt M D) (stop : Option Stop) : Type 0 where
     pub ends : EndsAt P old new stop
     pub does : StepsAt P n old new
     pub known : new.pass.view.known ≡ old.pass.view.known
+    pub began : begun new ≡ begun old
     pub held : new.pass.view.held ≡ old.pass.view.held

@@ -1,13 +1,11 @@
 -- Why an attempt is stopped, by the steps in the trail.
-use Rattle.std.specs.Prelude.{◌≡◌, ℕ, ◌+◌, ◌*◌, ◌<◌, ◌≤◌, false, ◌⊎◌, List, ◌++◌, length, slice_get, Some, IsSome}
+use Rattle.std.specs.Prelude.{◌≡◌, ℕ, ◌+◌, ◌*◌, ◌<◌, ◌≤◌, false, ◌⊎◌, List, [], ◌∷◌, ◌++◌, length, slice_get, Some, IsSome}
 use Rattle.cell_table.specs.Cells.{has}
 use Rattle.cell_table.specs.declared.view.Event.{Event}
-use Rattle.cell_table.specs.declared.view.Event.TheVariants.{LockLoaded, LockExchanged}
+use Rattle.cell_table.specs.declared.view.Event.TheVariants.{ClockLoaded, LockLoaded, ValueLoaded, LockExchanged, VersionDrawn, ValueStored, LockStored, SeatMoved}
 use Rattle.attempt_lists.specs.Cells.{Entries, word_at}
 use Rattle.tx_core.specs.declared.stop.Stop.{Stop}
 use Rattle.tx_core.specs.declared.stop.Stop.TheVariants.{Held, Newer, Memory}
-use Rattle.tx_core.specs.declared.stop.TxState.{TxState}
-use Rattle.tx_core.specs.declared.stop.TxState.TheVariants.{Running, Stopped}
 
 -- a load or a compare-exchange of the cell's lock word, from place n of the trail on, found this word
 abbrev pub FoundSince : ℕ → List Event → ℕ → ℕ → Type 0
@@ -56,11 +54,17 @@ FoundTwice n trail (Held cell owner) = Unit {0}
 FoundTwice n trail (Newer cell found) = (v : ℕ) × (v < found) × FoundSince n trail cell (2 * v)
 FoundTwice n trail Memory = Unit {0}
 
--- the state that a call leaves after a stop which spares the attempt: want of memory alone stops it
-abbrev pub spared_by : Stop → TxState
-spared_by (Held cell owner) = Running
-spared_by (Newer cell found) = Running
-spared_by Memory = Stopped
+-- how many steps there were before the newest load of the clock, by a trail whose newest step comes first
+abbrev pub begun_of : List Event → ℕ
+begun_of [] = 0
+begun_of (ClockLoaded r ∷ es) = length es
+begun_of (LockLoaded c w ∷ es) = begun_of es
+begun_of (ValueLoaded c x ∷ es) = begun_of es
+begun_of (LockExchanged c w ∷ es) = begun_of es
+begun_of (VersionDrawn u ∷ es) = begun_of es
+begun_of (ValueStored c x ∷ es) = begun_of es
+begun_of (LockStored c w ∷ es) = begun_of es
+begun_of (SeatMoved ∷ es) = begun_of es
 
 -- the trail grew by at most so many steps
 abbrev pub GrewBy : ℕ → List Event → List Event → Type 0

@@ -1,24 +1,27 @@
 -- Facts of what calls leave of attempts, whatever the table's meaning, for the proofs of this crate and of those above.
-use Rattle.std.proofs.Common.{◌≡◌, ◌≢◌, ℕ, zero, suc, ◌+◌, ◌*◌, ◌≤◌, List, [], ◌∷◌, ◌++◌, length, slice_get, slice_index, inl, inr, Some, None, refl, sym, ap, subst, ◌∙◌, arith, append-nil, append_assoc, length-append}
+use Rattle.std.proofs.Common.{◌≡◌, ◌≢◌, ℕ, zero, suc, ◌+◌, ◌*◌, ◌≤◌, cond, false, true, Bool, ltb, ◌<◌, List, [], ◌∷◌, ◌++◌, length, slice_get, slice_index, inl, inr, Some, None, refl, sym, ap, subst, ◌∙◌, arith, append-nil, append_assoc, length-append}
+use Rattle.std.proofs.lemmas.List.{length-reverse}
+use Rattle.std.proofs.Math.Decide.{ℕ_discrete}
+use Rattle.std.proofs.lemmas.Bool.Decides.{nat_tests}
 use Rattle.std.specs.Prelude.{Option}
 use Rattle.std.specs.Option.{option_or}
 use Rattle.cell_table.specs.Cells.{has, after, AllHold}
-use Rattle.cell_table.specs.Sorted.{Each, Among}
+use Rattle.cell_table.specs.Sorted.{Each, Among, insert_by}
 use Rattle.cell_table.specs.Rule.{cells_of, callers_of}
 use Rattle.cell_table.specs.declared.view.View.{View}
 use Rattle.cell_table.specs.declared.view.Event.{Event}
-use Rattle.cell_table.specs.declared.view.Event.TheVariants.{LockLoaded, LockExchanged}
-use Rattle.cell_table.specs.Steps.{Grows, Observes}
+use Rattle.cell_table.specs.declared.view.Event.TheVariants.{ClockLoaded, LockLoaded, ValueLoaded, LockExchanged, VersionDrawn, ValueStored, LockStored, SeatMoved}
+use Rattle.cell_table.specs.Steps.{Grows, Observes, cell_key}
 use Rattle.cell_table.specs.Pass.{PassState, IsHeld, IsSole, trail_of, with_view}
 use Rattle.attempt_lists.specs.Cells.{Entries, word_at, put, IsAscending}
 use Rattle.tx_core.specs.declared.spare.Spare.{Spare}
 use Rattle.tx_core.specs.declared.stop.Stop.{Stop}
 use Rattle.tx_core.specs.declared.stop.Stop.TheVariants.{Held, Newer, Memory}
-use Rattle.tx_core.specs.Causes.{FoundSince, FoundTwice, CausedSince, IsOfCell, IsFoundAt, GrewBy}
+use Rattle.tx_core.specs.Causes.{FoundSince, FoundTwice, CausedSince, IsOfCell, IsFoundAt, IsFound, GrewBy, begun_of}
 use Rattle.tx_core.specs.Seen.{IsLooked, LooksOnly, HoldsOnly, KnowsMore, SameOthers}
 use Rattle.tx_core.specs.Tx.{Attempt, Observed}
 use Rattle.tx_core.specs.Words.{word_at_more}
-use Rattle.tx_core.specs.Calls.{IsOpen, stopped_from, IsOfThese, IsFoundIn, UsesAtMost, KeepsOthers, known, KeepsHeld, HoldsWrites, TouchesOnly, GoesOn, StepsAt, CausedIn, StopsAt, EndsAt, HoldsAt, LooksAt}
+use Rattle.tx_core.specs.Calls.{IsOpen, stopped_from, IsOfThese, IsFoundIn, UsesAtMost, KeepsOthers, known, KeepsHeld, HoldsWrites, TouchesOnly, GoesOn, StepsAt, begun, IsCausedInAttempt, CausedIn, StopsAt, EndsAt, HoldsAt, LooksAt}
 
 -- ---- trails
 
@@ -36,6 +39,18 @@ grew_trans n m t u w a b = (a.0 ++ b.0, b.1 ∙ ap (λ (x : List Event). x ++ b.
 
 pub length_grown : (n : ℕ) (t u : List Event) → GrewBy n t u → length t ≤ length u
 length_grown n t u grew = omega (arith, ap length grew.1, length-append t grew.0)
+
+-- an attempt began before its last step
+pub begun_low : (t : List Event) → begun_of t ≤ length t
+begun_low [] = omega arith
+begun_low (ClockLoaded r ∷ t) = omega arith
+begun_low (LockLoaded c w ∷ t) = omega (arith, begun_low t)
+begun_low (ValueLoaded c x ∷ t) = omega (arith, begun_low t)
+begun_low (LockExchanged c w ∷ t) = omega (arith, begun_low t)
+begun_low (VersionDrawn u ∷ t) = omega (arith, begun_low t)
+begun_low (ValueStored c x ∷ t) = omega (arith, begun_low t)
+begun_low (LockStored c w ∷ t) = omega (arith, begun_low t)
+begun_low (SeatMoved ∷ t) = omega (arith, begun_low t)
 
 -- ---- causes
 
@@ -123,13 +138,14 @@ module _ {M D : Type 0} where
     known = b.known ∙ a.known;
     held = b.held ∙ a.held;
     stage = b.stage ∙ a.stage;
+    begun = b.begun ∙ a.begun;
   }
 
   pub looks_trans : (p q r : PassState M D) → LooksOnly p q → LooksOnly q r → LooksOnly p r
   looks_trans p q r a b = (b.0 ∙ ap (λ (s : PassState M D). with_view s r.view) a.0, looked_trans p.view q.view r.view a.1 b.1)
 
   pub holds_only_none : (p : PassState M D) → HoldsOnly p p
-  holds_only_none p = record { is = refl; grows = record { meaning = refl; opening = refl; total = refl; known = omega arith; values = λ t h. h; validations = λ t h. h }; books = refl; draws = refl; known = refl; stage = refl }
+  holds_only_none p = record { is = refl; grows = record { meaning = refl; opening = refl; total = refl; known = omega arith; values = λ t h. h; validations = λ t h. h }; books = refl; draws = refl; known = refl; stage = refl; begun = refl }
 
   pub holds_only_trans : (p q r : PassState M D) → HoldsOnly p q → HoldsOnly q r → HoldsOnly p r
   holds_only_trans p q r a b = record {
@@ -139,6 +155,7 @@ module _ {M D : Type 0} where
     draws = b.draws ∙ a.draws;
     known = b.known ∙ a.known;
     stage = b.stage ∙ a.stage;
+    begun = b.begun ∙ a.begun;
   }
 
   goes_as : PassState M D → PassState M D → PassState M D
@@ -195,6 +212,32 @@ each_wider : (P Q : ℕ × ℕ → Type 0) → ((o : ℕ × ℕ) → P o → Q o
 each_wider P Q f [] a = tt
 each_wider P Q f (x ∷ xs) a = (f x a.0, each_wider P Q f xs a.1)
 
+-- ---- held cells
+
+pub length_insert : (x : ℕ × ℕ) (held : List (ℕ × ℕ)) → length (insert_by cell_key x held) ≡ length held + 1
+length_insert x [] = refl
+length_insert x (t ∷ ts) = at (ltb x.0 t.0) (length_insert x ts)
+  where
+    at : (below : Bool) → length (insert_by cell_key x ts) ≡ length ts + 1 → length (cond below (x ∷ t ∷ ts) (t ∷ insert_by cell_key x ts)) ≡ length (t ∷ ts) + 1
+    at true rest = omega arith
+    at false rest = omega (arith, rest)
+
+pub among_held : (hs : List (ℕ × ℕ)) (c : ℕ) → has c (cells_of hs) ≡ true → (u : ℕ) × Among (c, u) hs
+among_held [] c h = cc
+among_held (t ∷ ts) c h = elim (ℕ_discrete t.0 c) [
+  | yes here ↦ (t.1, inl (ap (λ n. (n, t.1)) here))
+  | no away ↦ let rest = among_held ts c (grind (arith, nat_tests, h, away)) in (rest.0, inr rest.1)
+]
+
+pub held_among : (hs : List (ℕ × ℕ)) (c u : ℕ) → Among (c, u) hs → has c (cells_of hs) ≡ true
+held_among [] c u h = absurd h
+held_among (t ∷ ts) c u (inl is) = let here : t.0 ≡ c = ap (λ (x : ℕ × ℕ). x.0) is in grind (arith, nat_tests, here)
+held_among (t ∷ ts) c u (inr h) = let rest = held_among ts c u h in grind (arith, nat_tests, rest)
+
+-- what stays listed stays held
+pub held_still : (hs ks : List (ℕ × ℕ)) → ((t : ℕ × ℕ) → Among t hs → Among t ks) → (c : ℕ) → has c (cells_of hs) ≡ true → has c (cells_of ks) ≡ true
+held_still hs ks kept c h = let at = among_held hs c h in held_among ks c at.0 (kept (c, at.0) at.1)
+
 -- ---- what calls leave of an attempt
 
 module _ {M D : Type 0} where
@@ -217,6 +260,10 @@ module _ {M D : Type 0} where
     kept = λ t there. subst (λ (h : Entries). Among t h) (sym held) there;
     others = λ cells c off. ap (λ (w : Entries). slice_index (after cells w) c) writes;
   }
+
+  -- what was held is held
+  pub held_kept : (P : ℕ → Type 0) (a b : Attempt M D) → TouchesOnly P a b → KeepsHeld a b
+  held_kept P a b t = held_still a.pass.view.held b.pass.view.held t.kept
 
   pub touches_wider : (P Q : ℕ → Type 0) (a b : Attempt M D) → ((c : ℕ) → P c → Q c) → TouchesOnly P a b → TouchesOnly Q a b
   touches_wider P Q a b wider t = record {
@@ -285,24 +332,31 @@ module _ {M D : Type 0} where
   }
 
   pub holds_wider : (P Q : ℕ → Type 0) (n m : ℕ) (a b : Attempt M D) (stop : Option Stop) → ((c : ℕ) → P c → Q c) → n ≤ m → HoldsAt P n a b stop → HoldsAt Q m a b stop
-  holds_wider P Q n m a b stop wider more h = record { ends = ends_wider P Q a b stop wider h.ends; does = steps_wider P Q n m a b wider more h.does; known = h.known }
+  holds_wider P Q n m a b stop wider more h = record { ends = ends_wider P Q a b stop wider h.ends; does = steps_wider P Q n m a b wider more h.does; known = h.known; began = h.began }
 
   pub holds_then : (P : ℕ → Type 0) (n m : ℕ) (a b d : Attempt M D) (stop : Option Stop) → HoldsAt P n a b None → HoldsAt P m b d stop → HoldsAt P (n + m) a d stop
-  holds_then P n m a b d stop s t = record { ends = ends_then P P n a b d stop s.does s.ends t.ends; does = steps_trans P n m a b d s.does t.does; known = t.known ∙ s.known }
+  holds_then P n m a b d stop s t = record { ends = ends_then P P n a b d stop s.does s.ends t.ends; does = steps_trans P n m a b d s.does t.does; known = t.known ∙ s.known; began = t.began ∙ s.began }
 
   pub looks_none : (P : ℕ → Type 0) (a : Attempt M D) → LooksAt P 0 a a None
-  looks_none P a = record { ends = refl; does = steps_none P a; known = refl; held = refl }
+  looks_none P a = record { ends = refl; does = steps_none P a; known = refl; began = refl; held = refl }
 
   pub looks_wider : (P Q : ℕ → Type 0) (n m : ℕ) (a b : Attempt M D) (stop : Option Stop) → ((c : ℕ) → P c → Q c) → n ≤ m → LooksAt P n a b stop → LooksAt Q m a b stop
-  looks_wider P Q n m a b stop wider more h = record { ends = ends_wider P Q a b stop wider h.ends; does = steps_wider P Q n m a b wider more h.does; known = h.known; held = h.held }
+  looks_wider P Q n m a b stop wider more h = record { ends = ends_wider P Q a b stop wider h.ends; does = steps_wider P Q n m a b wider more h.does; known = h.known; began = h.began; held = h.held }
 
   pub looks_then : (P : ℕ → Type 0) (n m : ℕ) (a b d : Attempt M D) (stop : Option Stop) → LooksAt P n a b None → LooksAt P m b d stop → LooksAt P (n + m) a d stop
-  looks_then P n m a b d stop s t = record { ends = ends_then P P n a b d stop s.does s.ends t.ends; does = steps_trans P n m a b d s.does t.does; known = t.known ∙ s.known; held = t.held ∙ s.held }
+  looks_then P n m a b d stop s t = record { ends = ends_then P P n a b d stop s.does s.ends t.ends; does = steps_trans P n m a b d s.does t.does; known = t.known ∙ s.known; began = t.began ∙ s.began; held = t.held ∙ s.held }
 
   -- a call that only looks is one that may hold
   pub holds_looks : (P : ℕ → Type 0) (n : ℕ) (a b : Attempt M D) (stop : Option Stop) → LooksAt P n a b stop → HoldsAt P n a b stop
-  holds_looks P n a b stop l = record { ends = l.ends; does = l.does; known = l.known }
+  holds_looks P n a b stop l = record { ends = l.ends; does = l.does; known = l.known; began = l.began }
 
   -- the pass of such a call
   pub pass_of_holds : (P : ℕ → Type 0) (n : ℕ) (a b : Attempt M D) (stop : Option Stop) → HoldsAt P n a b stop → HoldsOnly a.pass b.pass
-  pass_of_holds P n a b stop h = record { is = h.does.pass.is; grows = h.does.pass.grows; books = h.does.pass.books; draws = h.does.pass.draws; known = h.known; stage = h.does.pass.stage }
+  pass_of_holds P n a b stop h = record { is = h.does.pass.is; grows = h.does.pass.grows; books = h.does.pass.books; draws = h.does.pass.draws; known = h.known; stage = h.does.pass.stage; begun = h.began }
+
+  -- a stop that was found in a call before the commit was found in the attempt
+  pub caused_in_attempt : (a b : Attempt M D) (stop : Stop) → b.version ≡ a.version → HoldsOnly a.pass b.pass → IsFound stop → CausedIn a b stop → IsCausedInAttempt b stop
+  caused_in_attempt a b stop version pass found cause =
+      let callers : callers_of b.pass.view.books ≡ callers_of a.pass.view.books = ap callers_of pass.books in
+      let early : begun b ≤ length (trail_of a.pass) = omega (arith, pass.begun, begun_low a.pass.view.trail, length-reverse a.pass.view.trail) in
+      (rw (version, callers) (caused_earlier (callers_of a.pass.view.books) a.version (begun b) (length (trail_of a.pass)) (trail_of b.pass) stop early cause), found)

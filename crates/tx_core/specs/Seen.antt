@@ -8,7 +8,7 @@ use Rattle.cell_table.specs.Steps.{Grows, Reads, Validated, cell_key}
 use Rattle.cell_table.specs.Pass.{PassState, with_view}
 use Rattle.attempt_lists.specs.Cells.{Entries, cell_at}
 use Rattle.tx_core.specs.declared.stop.Stop.{Stop}
-use Rattle.tx_core.specs.Causes.{IsFoundAt}
+use Rattle.tx_core.specs.Causes.{IsFoundAt, begun_of}
 
 module _ {M D : Type 0} where
   -- loads of words: the view knows what it knew, and its attempt has come no further
@@ -19,6 +19,7 @@ module _ {M D : Type 0} where
     pub known : w.known ≡ v.known
     pub held : w.held ≡ v.held
     pub stage : w.stage ≡ v.stage
+    pub begun : begun_of w.trail ≡ begun_of v.trail
 
   abbrev pub LooksOnly : PassState M D → PassState M D → Type 0
   LooksOnly p q = (q ≡ with_view p q.view) × IsLooked p.view q.view
@@ -68,6 +69,7 @@ module _ {M D : Type 0} where
     pub draws : q.view.draws ≡ p.view.draws
     pub known : q.view.known ≡ p.view.known
     pub stage : q.view.stage ≡ p.view.stage
+    pub begun : begun_of q.view.trail ≡ begun_of p.view.trail
     pub held : q.view.held ≡ insert_by cell_key (cell, u) p.view.held
     pub other : has cell (cells_of p.view.held) ≡ false
 
@@ -79,6 +81,7 @@ module _ {M D : Type 0} where
     pub draws : q.view.draws ≡ p.view.draws
     pub known : q.view.known ≡ p.view.known
     pub stage : q.view.stage ≡ p.view.stage
+    pub begun : begun_of q.view.trail ≡ begun_of p.view.trail
 
   -- the view knows more, and its attempt has come no further
   pub record KnowsMore (p q : PassState M D) : Type 0 where

@@ -1,6 +1,29 @@
+ghost use Rattle.std.specs.Prelude.{◌<◌, length};
+ghost use Rattle.tx_core.specs.Calls.{MayCall};
+
 use crate::{Stop, Tx, TxState, Untold};
 use cell_table::CellTable;
 use std::test::Fail;
+
+// Tries to hold a cell. Where another caller holds it, the try leaves the attempt running, and the attempt is then stopped
+// by what the try told of.
+#[tactic(auto, using(crate::specs::Facts::caused_in_attempt))]
+fn try_to_hold(tx: &mut Tx<'_, Untold>, cell: u32) -> Option<Stop>
+    requires callable { MayCall tx.old }
+    requires cell { cell < length tx.old.table.opening }
+{
+    match tx.try_hold(cell) {
+        Err(Stop::Held { cell, owner }) => {
+            if tx.state() != TxState::Running {
+                return None;
+            }
+            let stop = Stop::Held { cell, owner };
+            tx.stop_with(stop);
+            Some(stop)
+        }
+        _ => None,
+    }
+}
 
 #[test]
 fn additions_are_taken_in_the_order_in_which_they_came(rt: HostRuntime) -> Result<(), Fail> {
@@ -35,12 +58,7 @@ fn a_look_at_a_held_cell_leaves_the_attempt_running(rt: HostRuntime) -> Result<(
     let held = Stop::Held { cell: 0, owner: 1 };
     assert_eq!(rt; first.peek(1), Ok(4));
     assert_eq!(rt; first.peek(0), Err(held));
-    let Err(stop) = first.try_hold(0) else {
-        panic!(rt; "the cell is held");
-    };
-    assert_eq!(rt; stop, held);
-    assert_eq!(rt; first.state(), TxState::Running);
-    first.stop_with(stop);
+    assert_eq!(rt; try_to_hold(&mut first, 0), Some(held));
     assert_eq!(rt; first.state(), TxState::Stopped);
     let _ = first.abort();
     let _ = second.abort();

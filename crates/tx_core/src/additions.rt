@@ -3,7 +3,6 @@ ghost use Rattle.std.specs.Prelude.{◌≡◌, ℕ, ◌+◌, ◌*◌, ◌^◌, �
 
 use crate::gives::reserve_more_locks;
 use crate::spare::Spare;
-use crate::stop::TxState;
 use crate::tx::Tx;
 use cell_table::Meaning;
 use std::alloc::AllocError;
@@ -26,34 +25,25 @@ impl Spare {
 
 impl<'a, M: Meaning> Tx<'a, M> {
     ghost use Rattle.attempt_lists.specs.Parts.{waiting_of, ChangesOnly};
-    ghost use Rattle.tx_core.specs.declared.stop.TxState.TheVariants.{Running, Stopped};
-    ghost use Rattle.tx_core.specs.Additions.{HasSpare, HasTwoEach, more_spare};
-
-    /// What is true of every attempt before its commit: for each addition that waits two places of each kind are kept.
-    pub fn provided(&self)
-        ensures twice { self.now.committing ≡ false → HasTwoEach self.now.spare self.now.additions }
-        ensures each { self.now.committing ≡ false → (part : ℕ) → HasSpare self.now.spare (2 * length (waiting_of self.now.additions part)) }
-        ensures few { (self.now.spare.locks < 2 ^ 32) × (self.now.spare.observations < 2 ^ 32) × (self.now.spare.writes < 2 ^ 32) }
-    {
-        let _ = &self.version;
-    }
+    ghost use Rattle.tx_core.specs.Calls.{IsOpen, MayCall, stopped_from, memory_in, StepsAt, LooksAt};
+    ghost use Rattle.tx_core.specs.Additions.{more_spare};
 
     /// Adds a value to a part when the attempt commits. What placing it then needs is reserved now: two held cells, two
     /// observations and two writes.
     ///
-    /// After want of memory the state is `Stopped`, and nothing is added.
+    /// After want of memory the attempt is stopped, and nothing is added.
     pub fn later(&mut self, part: u32, value: u64) -> Result<(), AllocError>
-        requires running { self.old.state ≡ Running }
-        requires before_commit { self.old.committing ≡ false }
+        requires callable { MayCall self.old }
         ensures added { OnOk result (ChangesOnly self.old.additions self.new.additions part (waiting_of self.old.additions part ++ value ∷ [])) }
         ensures ok { OnOk result (self.new ≡ record self.old { pass = self.new.pass; additions = self.new.additions; spare = more_spare 2 self.old.spare }) }
-        ensures stopped { OnErr result (self.new ≡ record self.old { pass = self.new.pass; state = Stopped }) }
+        ensures stopped { OnErr result (self.new ≡ record self.old { pass = self.new.pass; state = stopped_from self.old.state }) }
         ensures pass { self.new.pass ≡ record self.old.pass { places = self.new.pass.places } }
+        ensures looks { LooksAt (λ c. ⊥) 0 self.old self.new (memory_in result) }
     {
         match self.add_later(part, value) {
             Ok(()) => Ok(()),
             Err(memory) => {
-                self.state = TxState::Stopped;
+                self.halt();
                 Err(memory)
             }
         }
@@ -97,9 +87,10 @@ impl<'a, M: Meaning> Tx<'a, M> {
     /// Consumes the first addition to a part that waits. `None` comes exactly where none waits. The places that are kept
     /// stay kept. Takes no memory.
     pub fn take_later(&mut self, part: u32) -> Option<u64>
-        requires running { self.old.state ≡ Running }
+        requires open_now { IsOpen self.old.state }
         ensures first { MatchOption result ((waiting_of self.old.additions part ≡ []) × (self.new ≡ self.old)) (λ value. (waiting_of self.old.additions part ≡ value ∷ waiting_of self.new.additions part) × ChangesOnly self.old.additions self.new.additions part (waiting_of self.new.additions part)) }
         ensures same { self.new ≡ record self.old { additions = self.new.additions } }
+        ensures does { StepsAt (λ c. ⊥) 0 self.old self.new }
     {
         self.additions.take_later(part)
     }

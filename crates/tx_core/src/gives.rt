@@ -74,7 +74,7 @@ pub(crate) fn give_back_all<M: Meaning>(
     ensures steps { GrewBy (length pass.old.view.held) (trail_of pass.old) (trail_of pass.new) }
 {
     // No cell is listed twice.
-    let _ = held.as_slice();
+    held.once_law();
     while let Some((cell, _)) = held.pop() {
         table.give_back(pass, cell);
     }

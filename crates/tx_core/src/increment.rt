@@ -3,7 +3,7 @@ ghost use Rattle.std.specs.Prelude.{◌≡◌, ℕ, ◌+◌, ◌-◌, ◌^◌, �
 ghost use Rattle.cell_table.specs.Steps.{IsIdle, Grows};
 ghost use Rattle.cell_table.specs.Pass.{IsPassOf, IsSole, note};
 ghost use Rattle.tx_core.specs.Stored.{cells_left};
-ghost use Rattle.tx_core.specs.declared.stop.TxState.TheVariants.{Running};
+ghost use Rattle.tx_core.specs.Calls.{MayCall, NothingWaits};
 
 use crate::tx::Tx;
 use crate::untold::Untold;
@@ -13,8 +13,8 @@ use std::test::Fail;
 
 /// Commits an attempt of a pass with every caller number: nothing can stop it.
 fn commit_alone(mut tx: Tx<'_, Untold>) -> Pass<Untold>
-    requires running { tx.state ≡ Running }
-    requires first { tx.committing ≡ false }
+    requires callable { MayCall tx }
+    requires resolved { NothingWaits tx }
     requires some_write { 0 < length tx.writes }
     requires sole { IsSole tx.pass }
     requires left { 0 < tx.pass.view.draws }
@@ -35,13 +35,12 @@ fn commit_alone(mut tx: Tx<'_, Untold>) -> Pass<Untold>
 
 /// Writes one more than the value of the cell.
 fn add_one(tx: &mut Tx<'_, Untold>, cell: u32) -> Result<(), AllocError>
-    requires running { tx.old.state ≡ Running }
-    requires first { tx.old.committing ≡ false }
-    requires fresh { (tx.old.observations ≡ []) × (tx.old.writes ≡ []) }
+    requires callable { MayCall tx.old }
+    requires fresh { (tx.old.observations ≡ []) × (tx.old.writes ≡ []) × NothingWaits tx.old }
     requires sole { IsSole tx.old.pass }
     requires cell { cell < length tx.old.table.opening }
     requires small { slice_index (cells_left tx.old.pass) cell + 1 < 2 ^ 64 }
-    ensures running { OnOk result ((tx.new.state ≡ Running) × (tx.new.committing ≡ false)) }
+    ensures callable { OnOk result (MayCall tx.new × NothingWaits tx.new) }
     ensures wrote { OnOk result (tx.new.writes ≡ (cell, slice_index (cells_left tx.old.pass) cell + 1) ∷ []) }
     ensures same { (tx.new.table ≡ tx.old.table) × (tx.new.version ≡ tx.old.version) × (tx.new.pass.books ≡ tx.old.pass.books) × (tx.new.pass.view.draws ≡ tx.old.pass.view.draws) }
     ensures grows { Grows tx.old.pass.view tx.new.pass.view }
@@ -49,7 +48,7 @@ fn add_one(tx: &mut Tx<'_, Untold>, cell: u32) -> Result<(), AllocError>
     let Ok(value) = tx.read(cell) else {
         return Err(AllocError);
     };
-    tx.alone();
+    tx.alone_law();
     tx.write(cell, value + 1)?;
     Ok(())
 }

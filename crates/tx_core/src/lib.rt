@@ -5,7 +5,6 @@
 #[cfg(test)]
 mod addition_tests;
 mod additions;
-mod agreed;
 mod check;
 mod commit;
 mod gives;
@@ -13,6 +12,7 @@ mod hold;
 #[cfg(test)]
 mod increment;
 mod late;
+mod laws;
 mod locks;
 mod peek;
 mod resolve_end;

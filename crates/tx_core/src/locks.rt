@@ -1,11 +1,13 @@
 //! The locks of a commit. A cell that was only written may have any version.
 ghost use Rattle.std.specs.Prelude.{◌≡◌, ℕ, ◌+◌, ◌*◌, ◌/◌, ◌^◌, ◌<◌, ◌≤◌, true, false, length, slice_index, IsOk, IsSome, None, IfOk, IfErr, OnOk, OnErr};
 ghost use Rattle.cell_table.specs.Cells.{has};
+ghost use Rattle.cell_table.specs.Sorted.{Among};
 ghost use Rattle.cell_table.specs.Rule.{cells_of, callers_of};
 ghost use Rattle.cell_table.specs.declared.view.Stage.TheVariants.{Open};
 ghost use Rattle.cell_table.specs.Steps.{Validated};
 ghost use Rattle.cell_table.specs.Pass.{IsPassOf, IsSole, IsHeld, trail_of};
 ghost use Rattle.attempt_lists.specs.Cells.{word_at, cell_at, word_of};
+ghost use Rattle.tx_core.specs.Calls.{newly_held};
 ghost use Rattle.tx_core.specs.Causes.{IsCausedAt, CausedSince, IsFoundAt, IsOfOne, FoundTwice, GrewBy};
 ghost use Rattle.tx_core.specs.Seen.{LooksOnly, IsSeen, Takes, HoldsOnly, SameOthers};
 ghost use Rattle.tx_core.specs.Tx.{IsAttempt};
@@ -71,7 +73,7 @@ pub(crate) fn lock_late<M: Meaning>(
     ensures sole { IsSole pass.old → pass.old.seen ≤ version → IsOk result }
 {
     // No cell was observed twice.
-    let _ = reads.as_slice();
+    reads.once_law();
     match reads.get(cell) {
         Some(seen) => match take_from(table, pass, cell, version, seen.version) {
             Ok(()) => Ok(seen.version),
@@ -103,7 +105,9 @@ fn lock_at<M: Meaning>(
     ensures held { OnOk result (IsHeld pass.new (cell_at writes.now.parent index)) }
     ensures pass { HoldsOnly pass.old pass.new }
     ensures others { SameOthers pass.old pass.new (cell_at writes.now.parent index) }
-    ensures kept { (c : ℕ) → IsHeld pass.old c → IsHeld pass.new c }
+    ensures kept { (t : ℕ × ℕ) → Among t pass.old.view.held → Among t pass.new.view.held }
+    ensures counted { OnOk result ((length pass.old.view.held ≤ length pass.new.view.held) × GrewBy (2 * newly_held pass.old pass.new) (trail_of pass.old) (trail_of pass.new)) }
+    ensures looks { OnErr result (LooksOnly pass.old pass.new) }
     ensures locks { held.new.reserved ≤ pass.new.places }
     ensures room { held.old.reserved ≤ held.new.reserved + 1 }
     ensures steps { GrewBy 2 (trail_of pass.old) (trail_of pass.new) }
@@ -141,7 +145,9 @@ pub(crate) fn lock_all<M: Meaning>(
     ensures all_held { OnOk result ((c : ℕ) → IsSome (word_at writes.now.parent c) → IsHeld pass.new c) }
     ensures pass { HoldsOnly pass.old pass.new }
     ensures others { (c : ℕ) → word_at writes.now.parent c ≡ None → has c (cells_of pass.new.view.held) ≡ has c (cells_of pass.old.view.held) }
-    ensures kept { (c : ℕ) → IsHeld pass.old c → IsHeld pass.new c }
+    ensures kept { (t : ℕ × ℕ) → Among t pass.old.view.held → Among t pass.new.view.held }
+    ensures counted { OnOk result (GrewBy (2 * newly_held pass.old pass.new) (trail_of pass.old) (trail_of pass.new)) }
+    ensures counted_to_stop { OnErr result (GrewBy (2 * newly_held pass.old pass.new + 2) (trail_of pass.old) (trail_of pass.new)) }
     ensures locks { held.new.reserved ≤ pass.new.places }
     ensures room { held.old.reserved ≤ held.new.reserved + length writes.now.parent }
     ensures steps { GrewBy (2 * length writes.now.parent) (trail_of pass.old) (trail_of pass.new) }

@@ -1,4 +1,6 @@
 //! Why the additions to a part aren't placed.
+ghost use Rattle.std.specs.Prelude.{◌≡◌};
+
 use crate::stop::Stop;
 
 /// Why the additions that wait for a part weren't placed at the commit.
@@ -14,4 +16,14 @@ pub enum ResolveEnd {
         /// How many wait to be added.
         adding: u64,
     },
+}
+
+impl From<Stop> for ResolveEnd {
+    ghost use Rattle.tx_core.specs.declared.resolve_end.ResolveEnd.TheVariants as ends;
+
+    ghost from_gives = { λ stop end. end ≡ ends.Stop stop };
+
+    fn from(stop: Stop) -> ResolveEnd {
+        ResolveEnd::Stop(stop)
+    }
 }

@@ -149,16 +149,18 @@ pub(crate) fn lock_seen<M: Meaning>(
     requires place { 0 < pass.old.places }
     requires known { version ≤ pass.old.view.known }
     requires observed { (i : ℕ) → i < length reads.now.observations → IsSeen pass.old.view version (cell_at reads.now.observations i) (word_of reads.now.observations i) (slice_index reads.now.versions i) }
+    requires early { (i : ℕ) → i < length reads.now.observations → slice_index reads.now.versions i ≤ version }
     ensures of { IsPassOf table.now pass.new }
     ensures takes { IfOk result (λ u. Takes pass.old pass.new cell u) }
     ensures seen { IfOk result (λ u. (i : ℕ) → i < length reads.now.observations → cell_at reads.now.observations i ≡ cell → slice_index reads.now.versions i ≡ u) }
+    ensures low { IfOk result (λ u. u ≤ version) }
     ensures looks { OnErr result (LooksOnly pass.old pass.new) }
     ensures steps { GrewBy 2 (trail_of pass.old) (trail_of pass.new) }
     ensures cause { IfErr result (IsCausedAt cell (callers_of pass.old.view.books) version (length (trail_of pass.old)) (trail_of pass.new)) }
     ensures sole { IsSole pass.old → pass.old.seen ≤ version → IsOk result }
 {
     // No cell was observed twice.
-    let _ = reads.as_slice();
+    reads.once_law();
     match reads.get(cell) {
         Some(seen) => match take_from(table, pass, cell, version, seen.version) {
             Ok(()) => Ok(seen.version),

@@ -1,6 +1,7 @@
 //! Why an attempt is stopped, and how it stands.
 ghost use Rattle.std.specs.Prelude.{◌≡◌};
-ghost use Rattle.tx_core.specs.Causes.{spared_by};
+
+use std::alloc::AllocError;
 
 /// Why an attempt can't go on.
 #[derive(Clone, Copy, Debug, PartialEq, Eq)]
@@ -26,12 +27,36 @@ pub enum TxState {
     Stopped,
 }
 
-/// The state after a stop that spares the attempt: want of memory alone stops it.
-pub(crate) fn spared(stop: Stop) -> TxState
-    ensures { result ≡ spared_by stop }
-{
-    match stop {
-        Stop::Held { .. } | Stop::Newer { .. } => TxState::Running,
-        Stop::Memory => TxState::Stopped,
+impl From<AllocError> for Stop {
+    ghost use Rattle.tx_core.specs.declared.stop.Stop.TheVariants.{Memory};
+
+    ghost from_gives = { λ _ stop. stop ≡ Memory };
+
+    fn from(_memory: AllocError) -> Stop {
+        Stop::Memory
+    }
+}
+
+impl TxState {
+    ghost use Rattle.tx_core.specs.Calls.{stopped_from, spared_from};
+
+    /// What a stop leaves of the state.
+    pub(crate) fn stopped(self) -> TxState
+        ensures { result ≡ stopped_from self }
+    {
+        match self {
+            TxState::Running | TxState::Stopped => TxState::Stopped,
+            TxState::Child | TxState::ChildStopped => TxState::ChildStopped,
+        }
+    }
+
+    /// What a stop that spares the attempt leaves of the state: want of memory alone stops it.
+    pub(crate) fn spared(self, stop: Stop) -> TxState
+        ensures { result ≡ spared_from self stop }
+    {
+        match stop {
+            Stop::Held { .. } | Stop::Newer { .. } => self,
+            Stop::Memory => self.stopped(),
+        }
     }
 }

@@ -1,17 +1,17 @@
 ghost use Rattle.std.specs.Prelude.{◌≡◌, ℕ, ◌+◌, ◌<◌, ◌≤◌, false, length, [], OnOk, IfOk, IfErr};
 ghost use Rattle.cell_table.specs.Steps.{IsIdle};
 ghost use Rattle.cell_table.specs.Pass.{IsPassOf, IsSole};
-ghost use Rattle.tx_core.specs.declared.stop.TxState.TheVariants.{Running};
+ghost use Rattle.tx_core.specs.Calls.{MayCall, NothingWaits};
 
 use crate::{Stop, Tx, TxState, Untold};
-use cell_table::{CellTable, Pass};
+use cell_table::{CellTable, Contents, Pass};
 use std::alloc::Global;
 use std::test::Fail;
 
 // Commits an attempt that writes, unless others stop it.
 fn commit(mut tx: Tx<'_, Untold>) -> Result<(u64, Pass<Untold>), (Stop, Pass<Untold>)>
-    requires running { tx.state ≡ Running }
-    requires first { tx.committing ≡ false }
+    requires callable { MayCall tx }
+    requires resolved { NothingWaits tx }
     requires some_write { 0 < length tx.writes }
     requires left { 0 < tx.pass.view.draws }
     ensures committed { IfOk result (λ r. IsPassOf tx.entry.table r.1 × IsIdle r.1.view) }
@@ -25,6 +25,24 @@ fn commit(mut tx: Tx<'_, Untold>) -> Result<(u64, Pass<Untold>), (Stop, Pass<Unt
     match tx.draw_and_check() {
         Ok(version) => Ok((version, tx.publish())),
         Err(stop) => Err((stop, tx.abort())),
+    }
+}
+
+// Writes a cell, and commits the attempt, unless others stop it.
+fn write_and_commit(
+    mut tx: Tx<'_, Untold>,
+    cell: u32,
+    value: u64,
+) -> Result<(u64, Pass<Untold>), (Stop, Pass<Untold>)>
+    requires callable { MayCall tx }
+    requires resolved { NothingWaits tx }
+    requires cell { cell < length tx.table.opening }
+    requires left { 0 < tx.pass.view.draws }
+    ensures refused { IfErr result (λ r. IsPassOf tx.entry.table r.1 × IsIdle r.1.view × (tx.entry.pass.view.draws ≤ r.1.view.draws + 1)) }
+{
+    match tx.write(cell, value) {
+        Ok(()) => commit(tx),
+        Err(_) => Err((Stop::Memory, tx.abort())),
     }
 }
 
@@ -56,14 +74,17 @@ fn commit_one_read(
 
 // The value of a cell, as the first thing that an attempt reads.
 fn read_first(tx: &mut Tx<'_, Untold>, cell: u32) -> Result<u64, Stop>
-    requires running { tx.old.state ≡ Running }
-    requires first { tx.old.committing ≡ false }
-    requires fresh { (tx.old.observations ≡ []) × (tx.old.writes ≡ []) }
+    requires callable { MayCall tx.old }
+    requires fresh { (tx.old.observations ≡ []) × (tx.old.writes ≡ []) × NothingWaits tx.old }
     requires cell { cell < length tx.old.table.opening }
-    ensures running { OnOk result ((tx.new.state ≡ Running) × (tx.new.committing ≡ false)) }
+    ensures callable { OnOk result (MayCall tx.new) }
+    ensures resolved { NothingWaits tx.new }
     ensures same { (tx.new.table ≡ tx.old.table) × (tx.new.writes ≡ []) × (tx.new.pass.view.draws ≡ tx.old.pass.view.draws) }
 {
-    tx.read(cell)
+    match tx.read(cell) {
+        Ok(value) => Ok(value),
+        Err(stop) => Err(stop),
+    }
 }
 
 // The second caller commits 5 to cell 0 between the first one's read and its commit, whose draw is spent.
@@ -83,8 +104,7 @@ fn an_observed_cell_that_changed_refuses_the_commit(rt: HostRuntime) -> Result<(
         panic!(rt; "the second commits");
     };
     assert_eq!(rt; place, 1);
-    a.write(1, 7).expect(&rt, "the first writes");
-    let Err((stop, first)) = commit(a) else {
+    let Err((stop, first)) = write_and_commit(a, 1, 7) else {
         panic!(rt; "the first is refused");
     };
     assert_eq!(rt; stop, Stop::Newer { cell: 0, found: 1 });
@@ -145,6 +165,17 @@ fn a_cell_only_written_may_have_become_newer(rt: HostRuntime) -> Result<(), Fail
     Ok(())
 }
 
+// The values and versions of the first three cells.
+fn three_cells(contents: &Contents) -> ((u64, u64), (u64, u64), (u64, u64))
+    requires { 3 ≤ length contents.now.values }
+{
+    (
+        (contents.value(0), contents.version(0)),
+        (contents.value(1), contents.version(1)),
+        (contents.value(2), contents.version(2)),
+    )
+}
+
 // One caller writes a cell and holds another one.
 #[test]
 fn a_commit_leaves_what_was_written_and_no_more(rt: HostRuntime) -> Result<(), Fail> {
@@ -161,23 +192,20 @@ fn a_commit_leaves_what_was_written_and_no_more(rt: HostRuntime) -> Result<(), F
     };
     assert_eq!(rt; place, 1);
     let contents = table.close(pass);
-    assert_eq!(rt; (contents.value(0), contents.version(0)), (11, 1));
-    assert_eq!(rt; (contents.value(1), contents.version(1)), (20, 0));
-    assert_eq!(rt; (contents.value(2), contents.version(2)), (30, 0));
+    assert_eq!(rt; three_cells(&contents), ((11, 1), (20, 0), (30, 0)));
     Ok(())
 }
 
 // A commit that locks one cell late, as far as its draw. It answers the cell's value, the place at which all that was
 // observed stands, and the version that was drawn.
 fn lock_late(tx: &mut Tx<'_, Untold>, cell: u32) -> Result<(u64, u64, u64), Stop>
-    requires running { tx.old.state ≡ Running }
-    requires first { tx.old.committing ≡ false }
+    requires callable { MayCall tx.old }
     requires cell { cell < length tx.old.table.opening }
     requires spare { (0 < tx.old.spare.locks) × (0 < tx.old.spare.observations) }
     requires left { 0 < tx.old.pass.view.draws }
     ensures table { tx.new.table ≡ tx.old.table }
 {
-    tx.vouched();
+    tx.vouched_law();
     tx.lock_writes()?;
     let value = tx.late_hold(cell)?;
     let place = tx.check_now()?;
@@ -219,8 +247,6 @@ fn a_commit_of_reads_leaves_the_cells_as_they_were(rt: HostRuntime) -> Result<()
     tx.note(1).expect(&rt, "a call is noted");
     let pass = tx.commit_reads();
     let contents = table.close(pass);
-    assert_eq!(rt; (contents.value(0), contents.version(0)), (10, 0));
-    assert_eq!(rt; (contents.value(1), contents.version(1)), (20, 0));
-    assert_eq!(rt; (contents.value(2), contents.version(2)), (30, 0));
+    assert_eq!(rt; three_cells(&contents), ((10, 0), (20, 0), (30, 0)));
     Ok(())
 }

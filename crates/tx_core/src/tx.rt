@@ -51,8 +51,9 @@ impl<'a, M: Meaning> Tx<'a, M> {
     ghost use Rattle.attempt_lists.specs.Cells.{Entries, word_at, word_of, cell_at, put, IsAscending};
     ghost use Rattle.attempt_lists.specs.Parts.{waiting_of};
     ghost use Rattle.tx_core.specs.declared.stop.Stop.TheVariants.{Memory};
-    ghost use Rattle.tx_core.specs.declared.stop.TxState.TheVariants.{Running, Stopped};
-    ghost use Rattle.tx_core.specs.Causes.{CausedSince, IsOfCell, IsFound, GrewBy};
+    ghost use Rattle.tx_core.specs.declared.stop.TxState.TheVariants.{Running};
+    ghost use Rattle.tx_core.specs.Calls.{IsOpen, MayCall, NothingWaits, stopped_from, stop_in, memory_in, begun, known, IsDrawn, CausedIn, LooksAt};
+    ghost use Rattle.tx_core.specs.Causes.{IsOfCell, IsFound, GrewBy};
     ghost use Rattle.tx_core.specs.Seen.{LooksOnly, IsFirstChanged};
     ghost use Rattle.tx_core.specs.Tx.{Observed};
     ghost use Rattle.tx_core.specs.Parts.{Shows};
@@ -69,9 +70,10 @@ impl<'a, M: Meaning> Tx<'a, M> {
         requires idle { IsIdle pass.view }
         requires draw { 0 < pass.view.draws }
         ensures table { IfOk result (λ tx. tx.table ≡ table.now) }
-        ensures fresh { IfOk result (λ tx. (tx.state ≡ Running) × (tx.observations ≡ []) × (tx.writes ≡ []) × (tx.notes ≡ []) × ((part : ℕ) → waiting_of tx.additions part ≡ []) × (tx.committing ≡ false)) }
+        ensures fresh { IfOk result (λ tx. (tx.state ≡ Running) × (tx.observations ≡ []) × (tx.writes ≡ []) × (tx.notes ≡ []) × NothingWaits tx × (tx.committing ≡ false)) }
         ensures pass { IfOk result (λ tx. tx.pass ≡ record pass { view = clocked pass.view tx.version; reserved = tx.pass.reserved }) }
         ensures version { IfOk result (λ tx. (trail_of tx.pass ≡ trail_of pass ++ ClockLoaded tx.version ∷ []) × (pass.seen ≤ tx.version)) }
+        ensures begun { IfOk result (λ tx. begun tx ≡ length (trail_of pass)) }
         ensures refused { IfErr result (λ back. back.0 ≡ pass) }
     {
         table.limits();
@@ -119,54 +121,30 @@ impl<'a, M: Meaning> Tx<'a, M> {
         !self.writes.is_empty()
     }
 
-    /// What is true of every attempt at any moment: take any list of cells in which all holds that it observed, and lay
-    /// its writes over it. Then a cell that it wrote or observed has its own write, else what it observed. One more write
-    /// sets its cell after the others.
-    pub fn laid_over(&self)
-        ensures ascending { IsAscending self.now.writes }
-        ensures shows { (cell x : ℕ) → option_or (word_at self.now.writes cell) (word_at self.now.observations cell) ≡ Some x → Shows self.now cell x }
-        ensures put { (cells : List ℕ) (cell x : ℕ) → after cells (put self.now.writes cell x) ≡ slice_set (after cells self.now.writes) cell x }
-        ensures sized { (cells : List ℕ) → length (after cells self.now.writes) ≡ length cells }
-        ensures earlier { (cells : List ℕ) (more : Entries) → AllHold cells (self.now.observations ++ more) → AllHold cells self.now.observations }
+    /// Whether an addition waits. It looks at each part to which something was added once.
+    pub fn is_adding(&self) -> bool
+        ensures { (result ≡ false) ↔ NothingWaits self.now }
     {
-        let _ = self.writes.parent();
-    }
-
-    /// The table of every attempt has 1 to 2^24 cells.
-    pub fn limits(&self)
-        ensures { (0 < length self.now.table.opening) × (length self.now.table.opening ≤ 2 ^ 24) }
-    {
-        self.table.limits();
-    }
-
-    /// What is true of every attempt at any moment: each of its observations stands at its version in the view of its
-    /// pass, but for those of newer versions, of which there are none before the commit.
-    pub fn vouched(&self)
-        ensures stands { (i : ℕ) → i < length self.now.observations → slice_index self.now.versions i ≤ self.now.version → Observes self.now.pass.view (cell_at self.now.observations i) (word_of self.now.observations i) self.now.version }
-        ensures early { self.now.committing ≡ false → (i : ℕ) → i < length self.now.observations → slice_index self.now.versions i ≤ self.now.version }
-        ensures sized { length self.now.versions ≡ length self.now.observations }
-        ensures undrawn { self.now.committing ≡ false → self.now.pass.view.stage ≡ Open }
-    {
-        let _ = &self.version;
+        if self.additions.is_empty() {
+            return false;
+        }
+        true
     }
 
     /// The value of a cell: the attempt's own write, else what it observed of the cell, both without a step. Else the
     /// value of the cell at the attempt's version, which is then observed.
     ///
-    /// After a stop the state is `Stopped`, and nothing else has changed but that the pass knows more.
+    /// After a stop the attempt is stopped, and nothing else has changed but that the pass knows more.
     pub fn read(&mut self, cell: u32) -> Result<u64, Stop>
-        requires running { self.old.state ≡ Running }
-        requires before_commit { self.old.committing ≡ false }
+        requires callable { MayCall self.old }
         requires cell { cell < length self.old.table.opening }
         ensures own { (x : ℕ) → word_at self.old.writes cell ≡ Some x → (result ≡ Ok x) × (self.new ≡ self.old) }
         ensures seen_before { (x : ℕ) → word_at self.old.writes cell ≡ None → word_at self.old.observations cell ≡ Some x → (result ≡ Ok x) × (self.new ≡ self.old) }
         ensures observes { word_at self.old.writes cell ≡ None → word_at self.old.observations cell ≡ None → IfOk result (λ x. Observed self.old self.new cell x) }
         ensures value { IfOk result (λ x. option_or (word_at self.new.writes cell) (word_at self.new.observations cell) ≡ Some x) }
-        ensures stopped { IfErr result (λ stop. IsOfCell cell stop × (self.new ≡ record self.old { pass = self.new.pass; state = Stopped })) }
-        ensures cause { IfErr result (CausedSince (callers_of self.old.pass.view.books) self.old.version (length (trail_of self.old.pass)) (trail_of self.new.pass)) }
-        ensures looks { LooksOnly self.old.pass self.new.pass }
-        ensures steps { GrewBy 3 (trail_of self.old.pass) (trail_of self.new.pass) }
-        ensures sole { IsSole self.old.pass → IfErr result (λ stop. stop ≡ Memory) }
+        ensures stopped { OnErr result (self.new ≡ record self.old { pass = self.new.pass; state = stopped_from self.old.state }) }
+        ensures looks { LooksAt (λ c. c ≡ cell) 3 self.old self.new (stop_in result) }
+        ensures pass { LooksOnly self.old.pass self.new.pass }
     {
         if let Some(value) = self.writes.get(cell) {
             return Ok(value);
@@ -174,24 +152,29 @@ impl<'a, M: Meaning> Tx<'a, M> {
         if let Some(seen) = self.reads.get(cell) {
             return Ok(seen.value);
         }
-        self.observe(cell)
+        match self.observe(cell) {
+            Ok(value) => Ok(value),
+            Err(stop) => {
+                self.halt();
+                Err(stop)
+            }
+        }
     }
 
-    // The value of a cell that was neither written nor observed.
+    // The value of a cell that was neither written nor observed. The state stays.
     fn observe(&mut self, cell: u32) -> Result<u64, Stop>
         requires cell { cell < length self.old.table.opening }
         requires unwritten { word_at self.old.writes cell ≡ None }
         requires unobserved { word_at self.old.observations cell ≡ None }
         ensures observes { IfOk result (λ x. Observed self.old self.new cell x) }
         ensures value { IfOk result (λ x. option_or (word_at self.new.writes cell) (word_at self.new.observations cell) ≡ Some x) }
-        ensures stopped { IfErr result (λ stop. IsOfCell cell stop × (self.new ≡ record self.old { pass = self.new.pass; state = Stopped })) }
-        ensures cause { IfErr result (CausedSince (callers_of self.old.pass.view.books) self.old.version (length (trail_of self.old.pass)) (trail_of self.new.pass)) }
+        ensures same { OnErr result (self.new ≡ record self.old { pass = self.new.pass }) }
+        ensures cause { IfErr result (λ stop. IsOfCell cell stop × CausedIn self.old self.new stop) }
         ensures looks { LooksOnly self.old.pass self.new.pass }
         ensures steps { GrewBy 3 (trail_of self.old.pass) (trail_of self.new.pass) }
         ensures sole { IsSole self.old.pass → IfErr result (λ stop. stop ≡ Memory) }
     {
         let Ok(()) = self.reads.reserve(1) else {
-            self.state = TxState::Stopped;
             return Err(Stop::Memory);
         };
         let table = self.table;
@@ -204,31 +187,51 @@ impl<'a, M: Meaning> Tx<'a, M> {
                 });
                 Ok(value)
             }
-            Err(stop) => {
-                self.state = TxState::Stopped;
-                Err(stop)
-            }
+            Err(stop) => Err(stop),
         }
+    }
+
+    // Stops the attempt.
+    pub(crate) fn halt(&mut self)
+        ensures { self.new ≡ record self.old { state = stopped_from self.old.state } }
+    {
+        self.state = self.state.stopped();
     }
 
     /// Writes a cell, for the commit. It stores nothing that others see and looks at nothing.
     ///
-    /// After want of memory the state is `Stopped`, and nothing is written.
+    /// After want of memory the attempt is stopped, and nothing is written.
     pub fn write(&mut self, cell: u32, value: u64) -> Result<(), AllocError>
-        requires running { self.old.state ≡ Running }
+        requires callable { MayCall self.old }
+        requires cell { cell < length self.old.table.opening }
+        ensures ok { OnOk result (self.new ≡ record self.old { pass = self.new.pass; writes = put self.old.writes cell value }) }
+        ensures stopped { OnErr result (self.new ≡ record self.old { pass = self.new.pass; state = stopped_from self.old.state }) }
+        ensures pass { self.new.pass ≡ record self.old.pass { places = self.new.pass.places } }
+        ensures looks { LooksAt (λ c. c ≡ cell) 0 self.old self.new (memory_in result) }
+    {
+        self.laid_over_law();
+        match self.put_write(cell, value) {
+            Ok(()) => Ok(()),
+            Err(memory) => {
+                self.halt();
+                Err(memory)
+            }
+        }
+    }
+
+    // Writes a cell, once there is room for its lock. The state stays.
+    fn put_write(&mut self, cell: u32, value: u64) -> Result<(), AllocError>
         requires before_commit { self.old.committing ≡ false }
         requires cell { cell < length self.old.table.opening }
         ensures ok { OnOk result (self.new ≡ record self.old { pass = self.new.pass; writes = put self.old.writes cell value }) }
-        ensures stopped { OnErr result (self.new ≡ record self.old { pass = self.new.pass; state = Stopped }) }
+        ensures same { OnErr result (self.new ≡ record self.old { pass = self.new.pass }) }
         ensures pass { self.new.pass ≡ record self.old.pass { places = self.new.pass.places } }
     {
         let promised = self.writes.parent().len() + self.spare.locks as usize;
         let Ok(()) = reserve_lock(&mut self.pass, &mut self.held, promised) else {
-            self.state = TxState::Stopped;
             return Err(AllocError);
         };
         let Ok(()) = self.writes.put(cell, value) else {
-            self.state = TxState::Stopped;
             return Err(AllocError);
         };
         Ok(())
@@ -236,15 +239,14 @@ impl<'a, M: Meaning> Tx<'a, M> {
 
     /// Notes a call with its reply, for the record of the commit.
     ///
-    /// After want of memory the state is `Stopped`, and nothing is noted.
+    /// After want of memory the attempt is stopped, and nothing is noted.
     pub fn note(&mut self, done: M::Done) -> Result<(), AllocError>
-        requires running { self.old.state ≡ Running }
-        requires before_commit { self.old.committing ≡ false }
+        requires callable { MayCall self.old }
         ensures ok { OnOk result (self.new ≡ record self.old { notes = self.old.notes ++ done ∷ [] }) }
-        ensures stopped { OnErr result (self.new ≡ record self.old { state = Stopped }) }
+        ensures stopped { OnErr result (self.new ≡ record self.old { state = stopped_from self.old.state }) }
     {
         if self.notes.push(done).is_err() {
-            self.state = TxState::Stopped;
+            self.state = self.state.stopped();
             return Err(AllocError);
         }
         Ok(())
@@ -252,18 +254,17 @@ impl<'a, M: Meaning> Tx<'a, M> {
 
     /// Draws the version of the commit, and validates every observation in the order in which they were made.
     ///
-    /// Ok gives the version that was drawn: all that was observed stands just before it. After a stop the state is
-    /// `Stopped`. One draw is used up in both cases.
+    /// Ok gives the version that was drawn: all that was observed stands just before it. After a stop the attempt is
+    /// stopped. One draw is used up in both cases.
     pub fn draw_and_check(&mut self) -> Result<u64, Stop>
-        requires running { self.old.state ≡ Running }
+        requires open_now { IsOpen self.old.state }
         requires undrawn { self.old.pass.view.stage ≡ Open }
         requires holds { self.old.pass.view.held ≢ [] }
         requires left { 0 < self.old.pass.view.draws }
-        ensures drawn { IfOk result (λ d. (self.new.pass.view.stage ≡ Drawn d) × (self.old.version < d)) }
-        ensures check { IfOk result (λ d. (i : ℕ) → i < length self.old.observations → Observes self.new.pass.view (cell_at self.old.observations i) (word_of self.old.observations i) (d - 1)) }
+        ensures drawn { IfOk result (λ d. IsDrawn self.new d × (self.old.version < d)) }
         ensures same { OnOk result (self.new ≡ record self.old { pass = self.new.pass; committing = true }) }
-        ensures stopped { IfErr result (λ stop. IsFound stop × (self.new ≡ record self.old { pass = self.new.pass; state = Stopped; committing = true })) }
-        ensures cause { IfErr result (CausedSince (callers_of self.old.pass.view.books) self.old.version (length (trail_of self.old.pass)) (trail_of self.new.pass)) }
+        ensures stopped { IfErr result (λ stop. IsFound stop × (self.new ≡ record self.old { pass = self.new.pass; state = stopped_from self.old.state; committing = true })) }
+        ensures cause { IfErr result (CausedIn self.old self.new) }
         ensures first { IfErr result (IsFirstChanged self.new.pass.view self.old.observations self.old.versions) }
         ensures sole { IsSole self.old.pass → IsOk result }
         ensures draws { self.new.pass.view.draws ≡ self.old.pass.view.draws - 1 }
@@ -278,7 +279,7 @@ impl<'a, M: Meaning> Tx<'a, M> {
         match check(table, &mut self.pass, &self.reads, &self.held, self.version) {
             Ok(()) => Ok(drawn),
             Err(stop) => {
-                self.state = TxState::Stopped;
+                self.state = self.state.stopped();
                 Err(stop)
             }
         }
@@ -294,8 +295,24 @@ impl<'a, M: Meaning> Tx<'a, M> {
         ensures books { result.books ≡ self.entry.pass.books }
         ensures steps { GrewBy (length self.entry.pass.view.held) (trail_of self.entry.pass) (trail_of result) }
         ensures pass { (result.room ≡ self.entry.pass.room) × (result.view.draws ≡ self.entry.pass.view.draws) }
-        ensures vouched { (i : ℕ) → i < length self.entry.observations → slice_index self.entry.versions i ≤ self.entry.version → Observes result.view (cell_at self.entry.observations i) (word_of self.entry.observations i) self.entry.version }
+        ensures vouched { (i : ℕ) → i < length self.entry.observations → (cell_at self.entry.observations i < length self.entry.table.opening) × (slice_index self.entry.versions i ≤ self.entry.version → Observes result.view (cell_at self.entry.observations i) (word_of self.entry.observations i) self.entry.version) }
         ensures grows { Grows self.entry.pass.view result.view }
+    {
+        let (pass, _) = self.abort_noted();
+        pass
+    }
+
+    /// As `abort`, but it hands the notes back with the pass.
+    pub fn abort_noted(self) -> (Pass<M>, Vec<M::Done, Global>)
+        ensures of { IsPassOf self.entry.table result.0 }
+        ensures idle { IsIdle result.0.view }
+        ensures seen { result.0.seen ≡ self.entry.version }
+        ensures books { result.0.books ≡ self.entry.pass.books }
+        ensures steps { GrewBy (length self.entry.pass.view.held) (trail_of self.entry.pass) (trail_of result.0) }
+        ensures pass { (result.0.room ≡ self.entry.pass.room) × (result.0.view.draws ≡ self.entry.pass.view.draws) }
+        ensures vouched { (i : ℕ) → i < length self.entry.observations → (cell_at self.entry.observations i < length self.entry.table.opening) × (slice_index self.entry.versions i ≤ self.entry.version → Observes result.0.view (cell_at self.entry.observations i) (word_of self.entry.observations i) self.entry.version) }
+        ensures grows { Grows self.entry.pass.view result.0.view }
+        ensures notes { result.1.items ≡ self.entry.notes }
     {
         let Tx {
             table,
@@ -304,7 +321,7 @@ impl<'a, M: Meaning> Tx<'a, M> {
             reads: _,
             writes: _,
             held,
-            notes: _,
+            notes,
             additions: _,
             spare: _,
             state: _,
@@ -312,16 +329,15 @@ impl<'a, M: Meaning> Tx<'a, M> {
         } = self;
         give_back_all(table, &mut pass, held);
         pass.saw(version);
-        pass
+        (pass, notes)
     }
 
     /// Commits an attempt that writes nothing. Each held cell is given back with the version that it had, and the record
     /// stands in the acting caller's book at the attempt's version.
     pub fn commit_reads(self) -> Pass<M>
-        requires running { self.state ≡ Running }
-        requires first { self.committing ≡ false }
+        requires callable { MayCall self }
         requires no_write { self.writes ≡ [] }
-        requires no_addition { (part : ℕ) → waiting_of self.additions part ≡ [] }
+        requires resolved { NothingWaits self }
         requires explained { (m : M) → self.pass.view.meaning ≡ Some m → M.explains m self.observations [] self.notes }
         ensures of { IsPassOf self.entry.table result }
         ensures idle { IsIdle result.view }

@@ -19,5 +19,5 @@ returns-clause-idle g c = (giving_ends _ _ _ c.loop-cell.pass (subst (λ es. IsG
 -- no more cells are listed than are held
 pub returns-clause-steps : goal.returns-clause-steps
 returns-clause-steps g c =
-    grew_more (length c.args.held.entries) _ _ _ (no_more_listed _ _ c.as_slice.ensures.once (λ d some. c.requires.holds d ∙ some))
+    grew_more (length c.args.held.entries) _ _ _ (no_more_listed _ _ c.once_law.ensures (λ d some. c.requires.holds d ∙ some))
     (giving_ends _ _ _ c.loop-cell.pass (subst (λ es. IsGiving c.args.table.now c.args.pass.now c.args.held.entries c.loop-cell.pass es) c.in_default.ensures.entries.0 c.loop-cell.invariant)).1

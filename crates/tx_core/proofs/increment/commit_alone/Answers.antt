@@ -11,17 +11,12 @@ use Rattle.tx_core.proofs.increment.commit_alone.Goals as goal
 pub draw_and_check-requires-clause-holds : goal.draw_and_check-requires-clause-holds
 draw_and_check-requires-clause-holds c = λ none.
     let first = cell_at c.args.tx.writes 0 in
-    let held = c.in-Ok.ensures.all_held first (word_there c.args.tx.writes 0 c.requires.some_write) in
+    let same = ap (λ (a : Attempt _ _). a.writes) c.in-Ok.ensures.same in
+    let held = c.in-Ok.ensures.all_held first (rw same (word_there c.args.tx.writes 0 c.requires.some_write)) in
     no (ap (λ held. has first (cells_of held)) (sym none) ∙ held)
   where
     no : false ≡ true → ⊥
     no e = cc
 
-pub publish-requires-clause-checked : goal.publish-requires-clause-checked
-publish-requires-clause-checked c =
-    let d = c.in-Ok-draw_and_check.field-0 in
-    let same = ap (λ (a : Attempt _ _). a.observations) c.in-Ok-draw_and_check.ensures.same in
-    (d, c.in-Ok-draw_and_check.ensures.drawn.0, rw same c.in-Ok-draw_and_check.ensures.check)
-
 pub returns-clause-grows : goal.returns-clause-grows
-returns-clause-grows c = grows_trans _ _ _ c.in-Ok.ensures.pass.grows (grows_trans _ _ _ c.draw_and_check.ensures.grows c.publish.ensures.grows)
+returns-clause-grows c = grows_trans _ _ _ c.in-Ok.ensures.leaves.does.pass.grows (grows_trans _ _ _ c.draw_and_check.ensures.grows c.publish.ensures.grows)

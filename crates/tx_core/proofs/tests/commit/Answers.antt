@@ -10,14 +10,9 @@ use Rattle.tx_core.proofs.tests.commit.Goals as goal
 pub draw_and_check-requires-clause-holds : goal.draw_and_check-requires-clause-holds
 draw_and_check-requires-clause-holds c = λ none.
     let first = cell_at c.args.tx.writes 0 in
-    let held = c.in-Ok.ensures.all_held first (word_there c.args.tx.writes 0 c.requires.some_write) in
+    let same = ap (λ (a : Attempt _ _). a.writes) c.in-Ok.ensures.same in
+    let held = c.in-Ok.ensures.all_held first (rw same (word_there c.args.tx.writes 0 c.requires.some_write)) in
     nothing (ap (λ held. has first (cells_of held)) (sym none) ∙ held)
   where
     nothing : false ≡ true → ⊥
     nothing e = cc
-
-pub publish-requires-clause-checked : goal.publish-requires-clause-checked
-publish-requires-clause-checked c =
-    let d = c.in-Ok-draw_and_check.version in
-    let same = ap (λ (a : Attempt _ _). a.observations) c.in-Ok-draw_and_check.ensures.same in
-    (d, c.in-Ok-draw_and_check.ensures.drawn.0, rw same c.in-Ok-draw_and_check.ensures.check)

@@ -1,4 +1,4 @@
-use Rattle.std.proofs.Common.{◌≡◌, slice_index, inl, inr, ap, sym, ◌∙◌, arith}
+use Rattle.std.proofs.Common.{◌≡◌, length, slice_index, inl, inr, ap, sym, ◌∙◌, arith}
 use Rattle.std.proofs.lemmas.Bool.{cases_Bool}
 use Rattle.cell_table.specs.Cells.{has}
 use Rattle.cell_table.specs.Rule.{cells_of}
@@ -8,6 +8,9 @@ use Rattle.attempt_lists.specs.Cells.{cell_at, word_of}
 use Rattle.tx_core.specs.Tx.{Attempt}
 use Rattle.tx_core.specs.Seen.{KnowsMore}
 use Rattle.tx_core.proofs.Looks.{observes_grows, stands_unheld, clocked_knows, knows_then_looks}
+use Rattle.tx_core.specs.Facts.{goes_knows}
+use Rattle.tx_core.proofs.Found.{grew_none, grew_step, grew_trans}
+use Rattle.tx_core.proofs.Calling.{steps_by}
 use Rattle.tx_core.proofs.AttemptFacts.{attempt_knows, attempt_commits}
 use Rattle.tx_core.proofs.Providing.{provided_places, provided_commits}
 use Rattle.tx_core.proofs.tx.Tx.check_now.Goals as goal
@@ -57,3 +60,17 @@ returns-in-Ok-clause-check g c = rw (← c.self.view_is) (λ i lt.
         omega (arith, known),
       )
     ])
+
+pub returns-in-Ok-clause-does : goal.returns-in-Ok-clause-does
+returns-in-Ok-clause-does g c =
+    let knows = knows_then_looks _ _ _ (clocked_knows c.self.inside.pass c.clock-place.new.pass c.clock-place.result c.clock-place.ensures.view c.clock-place.ensures.later.1) c.in-Ok.ensures.looks in
+    steps_by _ _ _ _ (ap (λ (a : Attempt _ _). a.version) c.self.view_is) (ap (λ (a : Attempt _ _). a.observations) c.self.view_is) (ap (λ (a : Attempt _ _). a.writes) c.self.view_is) (knows.held ∙ ap (λ (a : Attempt _ _). a.pass.view.held) c.self.view_is)
+    (rw (ap (λ (a : Attempt _ _). a.pass) (sym c.self.view_is)) (goes_knows _ _ knows))
+    (rw (ap (λ (a : Attempt _ _). a.pass) (sym c.self.view_is), ap (λ (a : Attempt _ _). a.observations) (sym c.self.view_is)) (grew_trans 1 (length c.self.inside.reads.observations) _ _ _ (grew_step 0 _ _ _ _ (grew_none _) c.clock-place.ensures.step) c.in-Ok.ensures.steps))
+
+pub returns-in-Err-clause-does : goal.returns-in-Err-clause-does
+returns-in-Err-clause-does g c =
+    let knows = knows_then_looks _ _ _ (clocked_knows c.self.inside.pass c.clock-place.new.pass c.clock-place.result c.clock-place.ensures.view c.clock-place.ensures.later.1) c.in-Err.ensures.looks in
+    steps_by _ _ _ _ (ap (λ (a : Attempt _ _). a.version) c.self.view_is) (ap (λ (a : Attempt _ _). a.observations) c.self.view_is) (ap (λ (a : Attempt _ _). a.writes) c.self.view_is) (knows.held ∙ ap (λ (a : Attempt _ _). a.pass.view.held) c.self.view_is)
+    (rw (ap (λ (a : Attempt _ _). a.pass) (sym c.self.view_is)) (goes_knows _ _ knows))
+    (rw (ap (λ (a : Attempt _ _). a.pass) (sym c.self.view_is), ap (λ (a : Attempt _ _). a.observations) (sym c.self.view_is)) (grew_trans 1 (length c.self.inside.reads.observations) _ _ _ (grew_step 0 _ _ _ _ (grew_none _) c.clock-place.ensures.step) c.in-Err.ensures.steps))

@@ -7,7 +7,7 @@ use Rattle.tx_core.proofs.tx.Tx.commit_reads.Goals as goal
 pub add_reads-requires-clause-stands : goal.add_reads-requires-clause-stands
 add_reads-requires-clause-stands g c =
     rw c.into_observations.ensures.observations (each_from_places _ _ (λ i lt.
-    let s = stands_grows _ _ _ _ _ _ c.give_back_all.ensures.gives.grows ((c.self.invariant.0.observed i lt).stands (c.self.invariant.0.early (ap (λ (a : Attempt _ _). a.committing) c.self.view_is ∙ c.requires.first) i lt)) in
+    let s = stands_grows _ _ _ _ _ _ c.give_back_all.ensures.gives.grows ((c.self.invariant.0.observed i lt).stands (c.self.invariant.0.early (ap (λ (a : Attempt _ _). a.committing) c.self.view_is ∙ c.requires.callable.before_commit) i lt)) in
     (s.there, observes_of _ _ _ _ _ s)))
 
 pub add_reads-requires-clause-explained : goal.add_reads-requires-clause-explained

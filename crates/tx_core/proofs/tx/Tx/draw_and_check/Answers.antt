@@ -1,15 +1,16 @@
-use Rattle.std.proofs.Common.{◌≡◌, ◌≢◌, [], slice_index, inl, inr, ap, sym, ◌∙◌, arith}
+use Rattle.std.proofs.Common.{◌≡◌, ◌≢◌, ℕ, ◌-◌, ◌<◌, [], length, slice_index, inl, inr, ap, sym, ◌∙◌, arith}
 use Rattle.std.proofs.lemmas.Bool.{cases_Bool}
 use Rattle.cell_table.specs.Cells.{has}
 use Rattle.cell_table.specs.Rule.{cells_of}
 use Rattle.cell_table.specs.declared.view.View.{View}
-use Rattle.cell_table.specs.Steps.{Grows}
+use Rattle.cell_table.specs.Steps.{Grows, Observes}
 use Rattle.cell_table.specs.Pass.{PassState}
 use Rattle.attempt_lists.specs.Cells.{cell_at, word_of}
 use Rattle.tx_core.specs.Tx.{Attempt}
 use Rattle.tx_core.proofs.Looks.{grows_trans, observes_grows, drawn_grows, stands_unheld}
 use Rattle.tx_core.proofs.Providing.{provided_places, provided_commits}
 use Rattle.tx_core.proofs.AttemptFacts.{attempt_looks, attempt_commits, attempt_draws}
+use Rattle.tx_core.proofs.tx.Tx.draw_and_check.Goals.{In-Ok}
 use Rattle.tx_core.proofs.tx.Tx.draw_and_check.Goals as goal
 
 -- the draw keeps what was observed
@@ -36,8 +37,9 @@ invariant_of-self-in-Err g c =
     )
 
 -- a held cell stands just before the draw by the draw itself, and the others by the validation
-pub returns-in-Ok-clause-check : goal.returns-in-Ok-clause-check
-returns-in-Ok-clause-check g c = rw (← c.self.view_is) (λ i lt.
+-- each observation stands just before the version that was drawn
+standing : (g : _) (c : In-Ok g) → (i : ℕ) → i < length c.self.inside.reads.observations → Observes c.check.new.pass.view (cell_at c.self.inside.reads.observations i) (word_of c.self.inside.reads.observations i) (c.draw-drawn.result - 1)
+standing g c i lt =
     let seen = c.self.invariant.0.observed i lt in
     let view = ap (λ (s : PassState _ _). s.view) c.draw-drawn.ensures.view in
     let held : c.draw-drawn.new.pass.view.held ≡ c.self.inside.pass.view.held = ap (λ (v : View _ _). v.held) view in
@@ -55,7 +57,13 @@ returns-in-Ok-clause-check g c = rw (← c.self.view_is) (λ i lt.
         omega (arith, (stands_unheld _ _ _ _ _ seen free).low, c.self.invariant.0.begun.1),
         omega (arith, known),
       )
-    ])
+    ]
+
+pub returns-in-Ok-clause-drawn : goal.returns-in-Ok-clause-drawn
+returns-in-Ok-clause-drawn g c = (
+  (c.in-Ok.ensures.looks.1.stage ∙ ap (λ (s : PassState _ _). s.view.stage) c.draw-drawn.ensures.view, standing g c),
+  omega (arith, c.self.invariant.0.begun.1, c.draw-drawn.ensures.later.1, ap (λ (a : Attempt _ _). a.version) c.self.view_is),
+)
 
 -- the draw and the looks only tell more
 pub returns-in-Ok-clause-grows : goal.returns-in-Ok-clause-grows

@@ -8,7 +8,7 @@ use Rattle.tx_core.specs.Tx.{Attempt}
 use Rattle.tx_core.proofs.Looks.{not_both}
 use Rattle.tx_core.proofs.AttemptFacts.{attempt_looks}
 use Rattle.tx_core.proofs.Providing.{provided_places, provided_locks}
-use Rattle.tx_core.proofs.Locking.{attempt_locks_known, others_takes, held_takes}
+use Rattle.tx_core.proofs.Locking.{attempt_locks_known}
 use Rattle.tx_core.proofs.tx.Tx.late_known.Goals as goal
 
 -- the lock has its place, and the observation of the cell its version
@@ -32,8 +32,5 @@ invariant_of-self-in-Err g c = (
   provided_places _ _ _ _ _ _ _ _ (ap (λ (s : PassState _ _). s.places) c.in-Err.ensures.looks.0) c.self.invariant.1,
 )
 
-pub returns-in-Ok-clause-held : goal.returns-in-Ok-clause-held
-returns-in-Ok-clause-held g c = held_takes _ _ _ _ c.in-Ok.ensures.takes.0
-
-pub returns-in-Ok-clause-others : goal.returns-in-Ok-clause-others
-returns-in-Ok-clause-others g c = rw (ap (λ (a : Attempt _ _). a.pass) (sym c.self.view_is)) (others_takes c.self.inside.pass c.self.inside.pass _ _ _ refl c.in-Ok.ensures.takes.0)
+pub returns-in-Ok-clause-takes : goal.returns-in-Ok-clause-takes
+returns-in-Ok-clause-takes g c = rw (ap (λ (a : Attempt _ _). a.pass) (sym c.self.view_is)) (c.in-Ok.version, c.in-Ok.ensures.takes.0.held)

@@ -9,7 +9,7 @@ use Rattle.tx_core.specs.Tx.{Attempt}
 use Rattle.tx_core.proofs.Looks.{valued_is, looks_by}
 use Rattle.tx_core.proofs.AttemptFacts.{attempt_looks}
 use Rattle.tx_core.proofs.Providing.{provided_places, provided_locks, provided_observes}
-use Rattle.tx_core.proofs.Locking.{attempt_locks_new, takes_then_looks, holds_only_takes, others_takes, held_takes, among_inserted, word_at-new}
+use Rattle.tx_core.proofs.Locking.{attempt_locks_new, takes_then_looks, holds_only_takes, held_takes, among_inserted, word_at-new}
 use Rattle.tx_core.proofs.tx.Tx.late_new.Goals.{After-push_reserved-in-Ok}
 use Rattle.tx_core.proofs.tx.Tx.late_new.Goals as goal
 
@@ -74,8 +74,8 @@ invariant_of-self-in-Err g c = (
   provided_places _ _ _ _ _ _ _ _ (ap (λ (s : PassState _ _). s.places) c.in-Err.ensures.looks.0) c.self.invariant.1,
 )
 
-pub returns-in-Ok-clause-held : goal.returns-in-Ok-clause-held
-returns-in-Ok-clause-held g c = held_takes _ _ _ _ (locked g c)
+pub returns-in-Ok-clause-takes : goal.returns-in-Ok-clause-takes
+returns-in-Ok-clause-takes g c = rw (ap (λ (a : Attempt _ _). a.pass) (sym c.self.view_is)) (c.in-Ok.version, (locked g c).held)
 
 pub returns-in-Ok-clause-value : goal.returns-in-Ok-clause-value
 returns-in-Ok-clause-value g c =
@@ -93,6 +93,3 @@ returns-in-Ok-clause-observes g c = record {
 
 pub returns-in-Ok-clause-pass : goal.returns-in-Ok-clause-pass
 returns-in-Ok-clause-pass g c = rw (ap (λ (a : Attempt _ _). a.pass) (sym c.self.view_is)) (holds_only_takes c.self.inside.pass c.self.inside.pass _ _ _ refl (locked g c))
-
-pub returns-in-Ok-clause-others : goal.returns-in-Ok-clause-others
-returns-in-Ok-clause-others g c = rw (ap (λ (a : Attempt _ _). a.pass) (sym c.self.view_is)) (others_takes c.self.inside.pass c.self.inside.pass _ _ _ refl (locked g c))

@@ -1,5 +1,7 @@
 use Rattle.std.proofs.Common.{◌≡◌, false, ◌<◌, length, ap, sym, arith, IsSome, refl, ◌∙◌}
 use Rattle.std.specs.Option.{option_or}
+use Rattle.cell_table.specs.Sorted.{insert_by}
+use Rattle.cell_table.specs.Steps.{cell_key}
 use Rattle.cell_table.specs.Pass.{PassState}
 use Rattle.cell_table.specs.declared.view.Stage.TheVariants.{Open}
 use Rattle.attempt_lists.specs.Cells.{word_at}
@@ -7,7 +9,7 @@ use Rattle.tx_core.specs.Tx.{Attempt}
 use Rattle.tx_core.proofs.Looks.{not_both}
 use Rattle.tx_core.proofs.AttemptFacts.{attempt_looks, attempt_widens}
 use Rattle.tx_core.proofs.Providing.{provided_moves}
-use Rattle.tx_core.proofs.Locking.{attempt_locks_known, others_takes, held_takes}
+use Rattle.tx_core.proofs.Locking.{attempt_locks_known}
 use Rattle.tx_core.proofs.tx.Tx.lock_known.Goals as goal
 
 -- the lock has its place, and the observation of the cell its version
@@ -36,8 +38,11 @@ invariant_of-self-in-Err g c = (
       (λ early. omega (arith, c.self.invariant.1.room early, c.in-Ok.ensures.kept)),
 )
 
-pub returns-in-Ok-lock_seen-clause-held : goal.returns-in-Ok-lock_seen-clause-held
-returns-in-Ok-lock_seen-clause-held g c = held_takes _ _ _ _ c.in-Ok-lock_seen.ensures.takes
+pub lock_seen-requires-clause-early : goal.lock_seen-requires-clause-early
+lock_seen-requires-clause-early g c = c.self.invariant.0.early (ap (λ (a : Attempt _ _). a.committing) c.self.view_is ∙ c.requires.before_commit)
 
-pub returns-in-Ok-lock_seen-clause-others : goal.returns-in-Ok-lock_seen-clause-others
-returns-in-Ok-lock_seen-clause-others g c = rw (ap (λ (a : Attempt _ _). a.pass) (sym c.self.view_is)) (others_takes c.self.inside.pass c.reserve_lock.new.pass _ _ _ c.in-Ok.ensures.pass c.in-Ok-lock_seen.ensures.takes)
+pub returns-in-Ok-lock_seen-clause-takes : goal.returns-in-Ok-lock_seen-clause-takes
+returns-in-Ok-lock_seen-clause-takes g c =
+    let t = c.in-Ok-lock_seen.ensures.takes in
+    rw (ap (λ (a : Attempt _ _). a.pass) (sym c.self.view_is), ap (λ (a : Attempt _ _). a.version) (sym c.self.view_is))
+    (c.in-Ok-lock_seen.version, c.in-Ok-lock_seen.ensures.low, t.held ∙ ap (λ (s : PassState _ _). insert_by cell_key (c.args.cell, c.in-Ok-lock_seen.version) s.view.held) c.in-Ok.ensures.pass)

@@ -1,6 +1,8 @@
 use Rattle.std.proofs.Common.{◌≡◌, false, ◌<◌, ◌++◌, ◌∷◌, [], length, None, ap, sym, ◌∙◌, arith}
 use Rattle.cell_table.specs.declared.view.View.{View}
 use Rattle.cell_table.specs.declared.view.Stage.TheVariants.{Open}
+use Rattle.cell_table.specs.Sorted.{insert_by}
+use Rattle.cell_table.specs.Steps.{cell_key}
 use Rattle.cell_table.specs.Pass.{PassState}
 use Rattle.attempt_lists.specs.Cells.{word_at}
 use Rattle.tx_core.specs.Tx.{Attempt}
@@ -8,7 +10,7 @@ use Rattle.tx_core.specs.Seen.{StandsAt}
 use Rattle.tx_core.proofs.Looks.{valued_is, looks_by, seen_stands}
 use Rattle.tx_core.proofs.Providing.{provided_moves}
 use Rattle.tx_core.proofs.AttemptFacts.{attempt_looks, attempt_widens, attempt_reserves}
-use Rattle.tx_core.proofs.Locking.{attempt_locks_new, others_takes, holds_only_takes, held_takes, takes_then_looks, among_inserted, word_at-new}
+use Rattle.tx_core.proofs.Locking.{attempt_locks_new, holds_only_takes, takes_then_looks, among_inserted, word_at-new}
 use Rattle.tx_core.proofs.tx.Tx.lock_new.Goals as goal
 
 -- the value that was loaded under the lock is that of the version which the lock replaced
@@ -78,11 +80,11 @@ returns-in-Ok-lock_cell-clause-value g c =
     rw (c.requires.unwritten, c.push_reserved-in-Ok-lock_cell.ensures.observations, c.reserve.ensures.observations, ap (λ (a : Attempt _ _). a.observations) c.self.view_is)
     (word_at-new c.args.self.now.observations c.args.cell c.look_value-value.result c.requires.unobserved)
 
-pub returns-in-Ok-lock_cell-clause-held : goal.returns-in-Ok-lock_cell-clause-held
-returns-in-Ok-lock_cell-clause-held g c = held_takes _ _ _ _ (takes_then_looks _ _ _ _ _ c.in-Ok-lock_cell.ensures.takes (looks_by c.lock_cell.new.pass c.look_value-value.new.pass _ c.look_value-value.ensures.view (valued_is _ _ _)))
+pub returns-in-Ok-lock_cell-clause-takes : goal.returns-in-Ok-lock_cell-clause-takes
+returns-in-Ok-lock_cell-clause-takes g c =
+    let t = takes_then_looks _ _ _ _ _ c.in-Ok-lock_cell.ensures.takes (looks_by c.lock_cell.new.pass c.look_value-value.new.pass _ c.look_value-value.ensures.view (valued_is _ _ _)) in
+    rw (ap (λ (a : Attempt _ _). a.pass) (sym c.self.view_is), ap (λ (a : Attempt _ _). a.version) (sym c.self.view_is))
+    (c.in-Ok-lock_cell.version, c.in-Ok-lock_cell.ensures.version.0, t.held ∙ ap (λ (s : PassState _ _). insert_by cell_key (c.args.cell, c.in-Ok-lock_cell.version) s.view.held) c.in-Ok.ensures.pass)
 
 pub returns-in-Ok-lock_cell-clause-pass : goal.returns-in-Ok-lock_cell-clause-pass
 returns-in-Ok-lock_cell-clause-pass g c = rw (ap (λ (a : Attempt _ _). a.pass) (sym c.self.view_is)) (holds_only_takes c.self.inside.pass c.reserve_lock.new.pass _ _ _ c.in-Ok.ensures.pass (takes_then_looks _ _ _ _ _ c.in-Ok-lock_cell.ensures.takes (looks_by c.lock_cell.new.pass c.look_value-value.new.pass _ c.look_value-value.ensures.view (valued_is _ _ _))))
-
-pub returns-in-Ok-lock_cell-clause-others : goal.returns-in-Ok-lock_cell-clause-others
-returns-in-Ok-lock_cell-clause-others g c = rw (ap (λ (a : Attempt _ _). a.pass) (sym c.self.view_is)) (others_takes c.self.inside.pass c.reserve_lock.new.pass _ _ _ c.in-Ok.ensures.pass (takes_then_looks _ _ _ _ _ c.in-Ok-lock_cell.ensures.takes (looks_by c.lock_cell.new.pass c.look_value-value.new.pass _ c.look_value-value.ensures.view (valued_is _ _ _))))

@@ -13,10 +13,10 @@ store_all-requires-clause-drawn g c =
     let pass = ap (λ (a : Attempt _ _). a.pass) c.self.view_is in
     let observations = ap (λ (a : Attempt _ _). a.observations) c.self.view_is in (
       checked.0,
-      rw pass checked.1,
+      rw pass checked.1.0,
       record {
         explained = λ m is. rw (c.into_observations.ensures.observations, c.into_parent.ensures.entries, observations, ap (λ (a : Attempt _ _). a.writes) c.self.view_is, ap (λ (a : Attempt _ _). a.notes) c.self.view_is) (c.requires.explained m (ap (λ (s : PassState _ _). s.view.meaning) (sym pass) ∙ is));
-        observed = rw (c.into_observations.ensures.observations) (each_from_places _ _ (λ i lt. ((c.self.invariant.0.observed i lt).there, rw (pass, observations) (checked.2 i (rw (← observations) lt)))));
+        observed = rw (c.into_observations.ensures.observations) (each_from_places _ _ (λ i lt. ((c.self.invariant.0.observed i lt).there, rw (pass, observations) (checked.1.1 i (rw (← observations) lt)))));
       },
     )
 

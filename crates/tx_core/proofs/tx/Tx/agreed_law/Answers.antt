@@ -4,7 +4,7 @@ use Rattle.cell_table.specs.Steps.{Observes}
 use Rattle.tx_core.specs.Tx.{Attempt}
 use Rattle.tx_core.proofs.Looks.{observes_of}
 use Rattle.tx_core.proofs.SeenWords.{observes_by}
-use Rattle.tx_core.proofs.tx.Tx.agreed.Goals as goal
+use Rattle.tx_core.proofs.tx.Tx.agreed_law.Goals as goal
 
 pub returns-clause-seen : goal.returns-clause-seen
 returns-clause-seen g c =

@@ -2,7 +2,7 @@ use Rattle.std.proofs.Common.{ap}
 use Rattle.attempt_lists.specs.Cells.{IsAscending}
 use Rattle.tx_core.specs.Tx.{Attempt}
 use Rattle.tx_core.proofs.Parts.{known_word, after-put, length-after, hold_first}
-use Rattle.tx_core.proofs.tx.Tx.laid_over.Goals as goal
+use Rattle.tx_core.proofs.tx.Tx.laid_over_law.Goals as goal
 
 pub returns-clause-shows : goal.returns-clause-shows
 returns-clause-shows g c cell x known cells all lt =
