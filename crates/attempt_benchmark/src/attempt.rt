@@ -1,10 +1,11 @@
 //! One attempt over all cells of a table.
-ghost use Rattle.std.specs.Prelude.{◌≡◌, ℕ, ◌<◌, ◌≤◌, ◌^◌, false, length, IfOk, OnOk, IsSome};
-ghost use Rattle.cell_table.specs.Pass.{IsPassOf, IsHeld};
+ghost use Rattle.std.specs.Prelude.{◌≡◌, ◌<◌, ◌≤◌, ◌^◌, length, IsOk, IfOk, IfErr, OnOk};
+ghost use Rattle.cell_table.specs.Pass.{IsPassOf, IsSole};
 ghost use Rattle.cell_table.specs.declared.view.Stage.TheVariants.{Open};
-ghost use Rattle.attempt_lists.specs.Cells.{word_at};
 ghost use Rattle.cell_table.specs.Steps.{IsIdle};
-ghost use Rattle.tx_core.specs.declared.stop.TxState.TheVariants.{Running};
+ghost use Rattle.tx_core.specs.Calls.{IsOpen, MayCall, NothingWaits, HoldsWrites};
+ghost use Rattle.attempt_benchmark.specs.Refused.{WantsMemory};
+ghost use Rattle.attempt_benchmark.specs.Attempt.{GoesOn};
 
 use cell_table::{CellTable, Pass};
 use std::alloc::{AllocError, Global};
@@ -20,12 +21,20 @@ pub enum Refused {
 }
 
 impl From<AllocError> for Refused {
+    ghost use Rattle.attempt_benchmark.specs.declared.attempt.Refused.TheVariants as refused;
+
+    ghost from_gives = { λ _ end. end ≡ refused.Memory };
+
     fn from(_: AllocError) -> Refused {
         Refused::Memory
     }
 }
 
 impl From<Stop> for Refused {
+    ghost use Rattle.attempt_benchmark.specs.declared.attempt.Refused.TheVariants as refused;
+
+    ghost from_gives = { λ stop end. end ≡ refused.Stopped stop };
+
     fn from(stop: Stop) -> Refused {
         Refused::Stopped(stop)
     }
@@ -44,11 +53,11 @@ fn zeros(alloc: Global, cells: u32) -> Result<Vec<u64>, AllocError>
 
 // Reads a cell, and writes 1 more than it has.
 fn add_one(tx: &mut Tx<'_, Untold>, cell: u32) -> Result<(), Refused>
-    requires running { tx.old.state ≡ Running }
-    requires before_commit { tx.old.committing ≡ false }
+    requires callable { MayCall tx.old }
     requires cell { cell < length tx.old.table.opening }
-    ensures running { OnOk result ((tx.new.state ≡ Running) × (tx.new.committing ≡ false)) }
-    ensures pass { (tx.new.table ≡ tx.old.table) × (tx.new.pass.books ≡ tx.old.pass.books) × (tx.new.pass.view.draws ≡ tx.old.pass.view.draws) }
+    ensures callable { OnOk result (MayCall tx.new) }
+    ensures goes_on { GoesOn tx.old tx.new }
+    ensures refused { IsSole tx.old.pass → IfErr result WantsMemory }
 {
     let value = tx.read(cell)?;
     tx.write(cell, value.saturating_add(1))?;
@@ -56,11 +65,11 @@ fn add_one(tx: &mut Tx<'_, Untold>, cell: u32) -> Result<(), Refused>
 }
 
 fn add_one_to_each(tx: &mut Tx<'_, Untold>, cells: u32) -> Result<(), Refused>
-    requires running { tx.old.state ≡ Running }
-    requires before_commit { tx.old.committing ≡ false }
+    requires callable { MayCall tx.old }
     requires cells { (0 < cells) × (cells ≤ length tx.old.table.opening) }
-    ensures running { OnOk result ((tx.new.state ≡ Running) × (tx.new.committing ≡ false)) }
-    ensures pass { (tx.new.table ≡ tx.old.table) × (tx.new.pass.books ≡ tx.old.pass.books) × (tx.new.pass.view.draws ≡ tx.old.pass.view.draws) }
+    ensures callable { OnOk result (MayCall tx.new) }
+    ensures goes_on { GoesOn tx.old tx.new }
+    ensures refused { IsSole tx.old.pass → IfErr result WantsMemory }
 {
     for i in 0..cells {
         let cell = (i as u64 * LEAP % cells as u64) as u32;
@@ -71,9 +80,10 @@ fn add_one_to_each(tx: &mut Tx<'_, Untold>, cells: u32) -> Result<(), Refused>
 
 // Commits what the attempt wrote.
 fn commit(mut tx: Tx<'_, Untold>) -> Result<Pass<Untold>, Refused>
-    requires running { tx.state ≡ Running }
-    requires before_commit { tx.committing ≡ false }
+    requires callable { MayCall tx }
+    requires resolved { NothingWaits tx }
     requires draw { 0 < tx.pass.view.draws }
+    ensures sole { IsSole tx.entry.pass → IsOk result }
     ensures of { IfOk result (λ pass. IsPassOf tx.entry.table pass × IsIdle pass.view × (length pass.books ≡ length tx.entry.pass.books)) }
 {
     if !tx.is_writing() {
@@ -90,11 +100,13 @@ fn commit(mut tx: Tx<'_, Untold>) -> Result<Pass<Untold>, Refused>
 
 // Draws the version of the commit, and publishes what was locked.
 fn publish(mut tx: Tx<'_, Untold>) -> Result<Pass<Untold>, Refused>
-    requires running { tx.state ≡ Running }
+    requires open_now { IsOpen tx.state }
     requires undrawn { tx.pass.view.stage ≡ Open }
     requires draw { 0 < tx.pass.view.draws }
     requires some_write { 0 < length tx.writes }
-    requires all_held { (c : ℕ) → IsSome (word_at tx.writes c) → IsHeld tx.pass c }
+    requires all_held { HoldsWrites tx }
+    requires resolved { NothingWaits tx }
+    ensures sole { IsSole tx.entry.pass → IsOk result }
     ensures of { IfOk result (λ pass. IsPassOf tx.entry.table pass × IsIdle pass.view × (length pass.books ≡ length tx.entry.pass.books)) }
 {
     match tx.draw_and_check() {
@@ -115,9 +127,11 @@ pub struct Committed {
     pub last: u64,
 }
 
-/// Reads each cell of a new table of so many cells, writes 1 more than it has, and commits all in one attempt.
+/// Reads each cell of a new table of so many cells, writes 1 more than it has, and commits all in one attempt. Nothing but
+/// want of memory refuses it.
 pub fn commit_all(alloc: Global, cells: u32) -> Result<Committed, Refused>
     requires cells { (0 < cells) × (cells ≤ 2 ^ 24) }
+    ensures refused { IfErr result WantsMemory }
 {
     let values = zeros(alloc, cells)?;
     let (table, pass) = CellTable::open(alloc, Untold, values.as_slice(), 1)?;

@@ -17,8 +17,3 @@ some_held (w ∷ ws) held some all none =
 
 pub draw_and_check-requires-clause-holds : goal.draw_and_check-requires-clause-holds
 draw_and_check-requires-clause-holds c = some_held c.args.tx.writes c.args.tx.pass.view.held c.requires.some_write c.requires.all_held
-
-pub publish-requires-clause-checked : goal.publish-requires-clause-checked
-publish-requires-clause-checked c =
-    let same = ap (λ (a : Attempt _ _). a.observations) c.in-Ok.ensures.same in
-    (c.in-Ok.field-0, c.in-Ok.ensures.drawn.0, rw same c.in-Ok.ensures.check)
