@@ -10,8 +10,7 @@ use Rattle.tx_core.specs.declared.stop.Stop.TheVariants.{Held, Newer, Memory}
 use Rattle.tx_core.specs.Causes.{FoundSince, CausedSince, GrewBy}
 use Rattle.tx_core.specs.Seen.{HoldsOnly}
 use Rattle.tx_core.specs.Tx.{Attempt}
-use Rattle.tx_core.proofs.Looks.{observes_grows}
-use Rattle.tx_core.proofs.Found.{caused_earlier}
+use Rattle.tx_core.specs.Facts.{observes_grows, caused_earlier}
 use Rattle.tx_pool.specs.declared.wanted.Wanted.{Wanted}
 use Rattle.tx_pool.specs.Walk.{HasWord, FoundUnfit, FoundStopped, PassedOver}
 use Rattle.tx_pool.specs.Steps.{LooksOn}

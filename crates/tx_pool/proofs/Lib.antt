@@ -8,3 +8,4 @@ pub mod Walking
 pub mod Seeing
 pub mod Filling
 pub mod Apart
+pub mod Serial

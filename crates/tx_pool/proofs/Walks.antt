@@ -1,5 +1,5 @@
 -- The walk once round the slots.
-use Rattle.std.proofs.Common.{◌≡◌, ℕ, ◌+◌, ◌-◌, ◌*◌, ◌/◌, ◌%◌, ◌<◌, ◌≤◌, inl, inr, ap, ◌∙◌, arith}
+use Rattle.std.proofs.Common.{◌≡◌, ℕ, ◌+◌, ◌-◌, ◌*◌, ◌/◌, ◌%◌, ◌<◌, ◌≤◌, inl, inr, sym, ap, subst, ◌∙◌, arith}
 use Rattle.std.proofs.Math.Nat.{div-add-mod, mod-lt, mod-eq_of_lt, mod-eq-sub-mod, mul-add-mod_self_left}
 use Rattle.std.proofs.lemmas.Bool.{cases_lt}
 use Rattle.tx_pool.specs.declared.part.PoolPart.{PoolPart}
@@ -36,3 +36,7 @@ walk_covers from j n lt =
 
 pub walk_in : (part : PoolPart) (from i : ℕ) → i < part.slots → IsSlot part (slot_at part from i)
 walk_in part from i lt = let rest : (from + i) % part.slots < part.slots = mod-lt (from + i) (omega arith) in (omega arith, omega arith)
+
+-- the next slot of the walk is one
+pub next_slot : (part : PoolPart) (from n c : ℕ) → c ≡ slot_at part from n → n < part.slots → (d : ℕ) → d ≡ c → IsSlot part d
+next_slot part from n c at lt d same = subst (IsSlot part) (sym (same ∙ at)) (walk_in part from n lt)

@@ -22,6 +22,10 @@ module _ (part : PoolPart) where
   abbrev pub IsFormed : List ℕ → Type 0
   IsFormed cells = (part.base + part.slots ≤ length cells) × All (λ w. w < 2 ^ 64) (words_in cells)
 
+  -- there are slots, and they are cells of the table that opened with these
+  abbrev pub IsPoolOf : List ℕ → Type 0
+  IsPoolOf opening = (0 < part.slots) × (part.base + part.slots ≤ length opening)
+
   -- the cell is a slot of the pool
   abbrev pub IsSlot : ℕ → Type 0
   IsSlot c = (part.base ≤ c) × (c < part.base + part.slots)

@@ -1,15 +1,14 @@
 -- What a walk once round the slots of a pool finds, and what it leaves of the attempt.
 use Rattle.std.specs.Prelude.{◌≡◌, ℕ, ◌+◌, ◌<◌, ◌≤◌, ◌⊎◌, Bool, true, false, List, [], ◌∷◌, ◌++◌, length, slice_index, slice_set, Some, None, MatchOption}
 use Rattle.std.specs.Option.{option_or}
-use Rattle.cell_table.specs.Cells.{has}
-use Rattle.cell_table.specs.Rule.{cells_of, callers_of}
+use Rattle.cell_table.specs.Rule.{callers_of}
 use Rattle.cell_table.specs.Steps.{Observes}
 use Rattle.cell_table.specs.Pass.{PassState, IsSole, IsHeld, trail_of}
 use Rattle.attempt_lists.specs.Cells.{Entries, word_at, put}
 use Rattle.tx_core.specs.declared.stop.Stop.{Stop}
-use Rattle.tx_core.specs.declared.stop.TxState.TheVariants.{Running}
 use Rattle.tx_core.specs.Causes.{FoundSince, IsCausedAt}
-use Rattle.tx_core.specs.Seen.{HoldsOnly, SameOthers}
+use Rattle.tx_core.specs.Seen.{HoldsOnly}
+use Rattle.tx_core.specs.Calls.{TouchesOnly}
 use Rattle.tx_core.specs.Tx.{Attempt}
 use Rattle.tx_pool.specs.declared.part.PoolPart.{PoolPart}
 use Rattle.tx_pool.specs.declared.wanted.Wanted.{Wanted}
@@ -34,14 +33,6 @@ Fits wanted w false = IsUnfit wanted w
 abbrev pub AreWalked : PoolPart → ℕ → ℕ → ℕ → Entries → Type 0
 AreWalked part from n end [] = n ≤ end
 AreWalked part from n end (o ∷ os) = (at : ℕ) × (n ≤ at) × (at < end) × (o.0 ≡ slot_at part from at) × AreWalked part from (at + 1) end os
-
--- What each call of the pool asks of the attempt
-pub record MayCall {M D : Type 0} (part : PoolPart) (tx : Attempt M D) : Type 0 where
-  pub running : tx.state ≡ Running
-  pub before_commit : tx.committing ≡ false
-  -- there are slots, and they are cells of the table
-  pub slots : 0 < part.slots
-  pub cells : part.base + part.slots ≤ length tx.table.opening
 
 module _ {M D : Type 0} where
   -- the cell has the word w for the attempt: its own write, else the value at its version
@@ -83,7 +74,7 @@ module _ {M D : Type 0} where
     pub is : b ≡ record a { pass = b.pass; observations = a.observations ++ seen; versions = b.versions; writes = put a.writes (slot_at part from at) new }
     pub pass : HoldsOnly a.pass b.pass
     pub held : IsHeld b.pass (slot_at part from at)
-    pub others : SameOthers a.pass b.pass (slot_at part from at)
+    pub touches : TouchesOnly (λ c. c ≡ slot_at part from at) a b
 
   -- slots alone were observed, in the order of the walk, or came to be held, and nothing was written
   pub record SeesSlots (part : PoolPart) (from : ℕ) (a b : Attempt M D) : Type 0 where
@@ -91,7 +82,6 @@ module _ {M D : Type 0} where
     pub walked : AreWalked part from 0 part.slots seen
     pub is : b ≡ record a { pass = b.pass; state = b.state; observations = a.observations ++ seen; versions = b.versions }
     pub pass : HoldsOnly a.pass b.pass
-    pub others : (c : ℕ) → (IsSlot part c → ⊥) → has c (cells_of b.pass.view.held) ≡ has c (cells_of a.pass.view.held)
 
   -- slots alone were observed, in the order of the walk, and nothing was written or came to be held
   pub record SeesOn (part : PoolPart) (from : ℕ) (a b : Attempt M D) : Type 0 where

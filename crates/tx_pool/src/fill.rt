@@ -1,12 +1,11 @@
 //! A slot's word replaced by another, in the first slot of a walk that can be had.
-ghost use Rattle.std.specs.Prelude.{◌≡◌, ℕ, ◌+◌, ◌*◌, ◌^◌, ◌<◌, ◌≤◌, IfOk, IfErr, OnOk, MatchOption};
-ghost use Rattle.cell_table.specs.Pass.{trail_of};
-ghost use Rattle.tx_core.specs.declared.stop.TxState.TheVariants.{Running, Stopped};
-ghost use Rattle.tx_core.specs.Causes.{IsFound, GrewBy};
+ghost use Rattle.std.specs.Prelude.{◌≡◌, ℕ, ◌+◌, ◌*◌, ◌^◌, ◌<◌, ◌≤◌, IfOk, IfErr, OnOk, OnErr, MatchOption};
+ghost use Rattle.tx_core.specs.Causes.{IsFound};
+ghost use Rattle.tx_core.specs.Calls.{MayCall, HoldsAt, Stays, stop_in};
 ghost use Rattle.tx_core.specs.Parts.{Explains};
-ghost use Rattle.tx_pool.specs.Pool.{IsFormed, slot_at};
-ghost use Rattle.tx_pool.specs.Walk.{IsFit, FoundUnfit, FirstStop, FillsSlot, SeesSlots, SeesOn, AllKnown, Replaces, HasNone, MayCall};
-ghost use Rattle.tx_pool.specs.Steps.{KnownUnfit, SeesStop};
+ghost use Rattle.tx_pool.specs.Pool.{IsPoolOf, IsFormed, IsSlot, slot_at};
+ghost use Rattle.tx_pool.specs.Walk.{IsFit, FirstStop, FillsSlot, SeesSlots, SeesOn, AllKnown, Replaces, HasNone};
+ghost use Rattle.tx_pool.specs.Steps.{IsKnown, SeesStop};
 
 use crate::part::PoolPart;
 use crate::walk::{Walked, walk};
@@ -14,28 +13,21 @@ use crate::wanted::Wanted;
 use cell_table::Meaning;
 use tx_core::{Stop, Tx};
 
-// Observes each slot, in the order of the walk. Each was found with a word that isn't a wanted one.
-fn observe_all<M: Meaning>(
-    part: &PoolPart,
-    tx: &mut Tx<'_, M>,
-    from: u32,
-    wanted: Wanted,
-) -> Result<(), Stop>
-    requires callable { MayCall part.now tx.old }
+// Observes each slot, in the order of the walk.
+fn observe_all<M: Meaning>(part: &PoolPart, tx: &mut Tx<'_, M>, from: u32) -> Result<(), Stop>
+    requires callable { MayCall tx.old }
+    requires part { IsPoolOf part.now tx.old.table.opening }
     requires small { part.now.base + part.now.slots ≤ 2 ^ 32 }
-    requires unfit { (j : ℕ) → j < part.now.slots → FoundUnfit wanted tx.old tx.old.pass (slot_at part.now from j) }
     ensures sees { SeesOn part.now from tx.old tx.new }
-    ensures known { OnOk result ((j : ℕ) → j < part.now.slots → KnownUnfit wanted tx.new (slot_at part.now from j)) }
-    ensures running { OnOk result (tx.new.state ≡ Running) }
-    ensures stopped { IfErr result (λ stop. (tx.new.state ≡ Stopped) × SeesStop part.now from tx.old tx.new stop) }
-    ensures steps { GrewBy (3 * part.now.slots) (trail_of tx.old.pass) (trail_of tx.new.pass) }
+    ensures known { OnOk result ((j : ℕ) → j < part.now.slots → IsKnown tx.new (slot_at part.now from j)) }
+    ensures stopped { IfErr result (SeesStop part.now from tx.old tx.new) }
+    ensures holds { HoldsAt (IsSlot part.now) (3 * part.now.slots) tx.old tx.new (stop_in result) }
 {
-    let _ = wanted;
     let start = from % part.slots;
     for i in 0..part.slots {
         let cell = part.slot(start, i);
         match tx.read(cell) {
-            Ok(_) => tx.agreed(),
+            Ok(_) => {}
             Err(stop) => return Err(stop),
         }
     }
@@ -51,25 +43,28 @@ pub(crate) fn fill<M: Meaning>(
     wanted: Wanted,
     word: u64,
 ) -> Result<Option<u64>, Stop>
-    requires callable { MayCall part.now tx.old }
+    requires callable { MayCall tx.old }
+    requires part { IsPoolOf part.now tx.old.table.opening }
     requires small { part.now.base + part.now.slots ≤ 2 ^ 32 }
-    ensures leaves { IfOk result (λ old. MatchOption old (SeesOn part.now from tx.old tx.new × (tx.new.state ≡ Running) × AllKnown part.now tx.new) (λ w. FillsSlot part.now from wanted tx.old tx.new w word × IsFit wanted w)) }
+    ensures leaves { IfOk result (λ old. MatchOption old (SeesOn part.now from tx.old tx.new × AllKnown part.now tx.new) (λ w. FillsSlot part.now from wanted tx.old tx.new w word × IsFit wanted w)) }
     ensures explains { IfOk result (λ old. Explains (IsFormed part.now) tx.old tx.new (λ cells then. MatchOption old (HasNone part.now wanted cells then) (λ w. (i : ℕ) × (i < part.now.slots) × Replaces (part.now.base + i) w word cells then))) }
-    ensures stopped { IfErr result (λ stop. SeesSlots part.now from tx.old tx.new × (tx.new.state ≡ Stopped)) }
+    ensures holds { HoldsAt (IsSlot part.now) (6 * part.now.slots) tx.old tx.new (stop_in result) }
+    ensures stays { Stays tx.old tx.new }
+    ensures stopped { OnErr result (SeesSlots part.now from tx.old tx.new) }
     ensures walk_found { IfErr result (λ stop. IsFound stop → FirstStop part.now from wanted tx.old tx.new.pass stop × (tx.new.pass.view.held ≡ tx.old.pass.view.held)) }
-    ensures steps { GrewBy (6 * part.now.slots) (trail_of tx.old.pass) (trail_of tx.new.pass) }
 {
     match walk(part, tx, from, wanted) {
         Walked::Holds(cell, old) => {
-            tx.laid_over();
+            tx.laid_over_law();
             match tx.write(cell, word) {
                 Ok(()) => Ok(Some(old)),
                 Err(_) => Err(Stop::Memory),
             }
         }
-        Walked::NoneFit => match observe_all(part, tx, from, wanted) {
+        Walked::NoneFit => match observe_all(part, tx, from) {
             Ok(()) => {
-                tx.laid_over();
+                tx.laid_over_law();
+                tx.agreed_law();
                 Ok(None)
             }
             Err(stop) => Err(stop),

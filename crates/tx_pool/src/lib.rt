@@ -1,6 +1,7 @@
 //! Pools of items in the cells of a table, one slot a cell.
 #![tactic(auto)]
 
+mod calls;
 mod fill;
 mod laws;
 mod part;

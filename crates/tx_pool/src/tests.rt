@@ -1,8 +1,8 @@
-ghost use Rattle.std.specs.Prelude.{◌≡◌, ◌-◌, ◌^◌, ◌<◌, false, length};
+ghost use Rattle.std.specs.Prelude.{◌≡◌, ◌-◌, ◌^◌, ◌<◌, length};
 ghost use Rattle.cell_table.specs.Steps.{IsIdle};
 ghost use Rattle.cell_table.specs.Pass.{IsPassOf};
-ghost use Rattle.tx_core.specs.declared.stop.TxState.TheVariants.{Running};
-ghost use Rattle.tx_pool.specs.Walk.{MayCall};
+ghost use Rattle.tx_core.specs.Calls.{MayCall, NothingWaits, Stays};
+ghost use Rattle.tx_pool.specs.Pool.{IsPoolOf};
 
 use crate::PoolPart;
 use cell_table::{CellTable, Pass};
@@ -18,8 +18,10 @@ fn expect_take(
     from: u32,
     item: Option<u64>,
 )
-    requires callable { MayCall part.now tx.old }
-    ensures callable { MayCall part.now tx.new }
+    requires callable { MayCall tx.old }
+    requires part { IsPoolOf part.now tx.old.table.opening }
+    ensures callable { MayCall tx.new }
+    ensures stays { Stays tx.old tx.new }
     ensures draws { tx.new.pass.view.draws ≡ tx.old.pass.view.draws }
 {
     let taken = part.take(tx, from).expect(rt, "no slot stops the attempt");
@@ -28,9 +30,11 @@ fn expect_take(
 
 // Expects that the item is put in, or that there is no room.
 fn expect_put(rt: &impl Abort, part: &PoolPart, tx: &mut Tx<'_, Untold>, value: u64, room: bool)
-    requires callable { MayCall part.now tx.old }
+    requires callable { MayCall tx.old }
+    requires part { IsPoolOf part.now tx.old.table.opening }
     requires value { value < 2 ^ 64 - 1 }
-    ensures callable { MayCall part.now tx.new }
+    ensures callable { MayCall tx.new }
+    ensures stays { Stays tx.old tx.new }
 {
     let done = part
         .put(tx, value, 0)
@@ -39,21 +43,14 @@ fn expect_put(rt: &impl Abort, part: &PoolPart, tx: &mut Tx<'_, Untold>, value: 
 }
 
 // Expects that this caller holds the pool's first slot, and ends the attempt.
-fn expect_held(
-    rt: &impl Abort,
-    part: &PoolPart,
-    table: &CellTable<Untold>,
-    mut tx: Tx<'_, Untold>,
-    owner: u32,
-) -> Pass<Untold>
-    requires callable { MayCall part.now tx }
-    requires table { tx.table ≡ table.now }
+fn expect_held(rt: &impl Abort, part: &PoolPart, mut tx: Tx<'_, Untold>, owner: u32) -> Pass<Untold>
+    requires callable { MayCall tx }
+    requires part { IsPoolOf part.now tx.table.opening }
     requires draws { 0 < tx.pass.view.draws }
-    ensures of { IsPassOf table.now result }
+    ensures of { IsPassOf tx.entry.table result }
     ensures idle { IsIdle result.view }
     ensures draws { 0 < result.view.draws }
 {
-    let _ = table;
     let Err(stop) = part.take(&mut tx, 0) else {
         panic!(rt; "the slot is held");
     };
@@ -63,12 +60,12 @@ fn expect_held(
 
 // Commits an attempt that writes, and expects this place.
 fn expect_commit(rt: &impl Abort, mut tx: Tx<'_, Untold>, place: u64) -> Pass<Untold>
-    requires running { tx.state ≡ Running }
-    requires before_commit { tx.committing ≡ false }
+    requires callable { MayCall tx }
+    requires nothing { NothingWaits tx }
     requires draws { 0 < tx.pass.view.draws }
     requires writes { 0 < length tx.writes }
 {
-    tx.vouched();
+    tx.vouched_law();
     let Ok(()) = tx.lock_writes() else {
         panic!(rt; "the written cells are locked");
     };
@@ -116,7 +113,7 @@ fn a_held_slot_stops_a_take_until_it_is_given_back(rt: HostRuntime) -> Result<()
         panic!(rt; "the second attempt begins");
     };
     expect_take(&rt, &part, &mut first, 0, Some(9));
-    let back = expect_held(&rt, &part, &table, second, 0);
+    let back = expect_held(&rt, &part, second, 0);
     let _ = first.abort();
     let Ok(mut again) = Tx::begin(rt.alloc(), &table, back) else {
         panic!(rt; "the second attempt begins again");

@@ -1,11 +1,11 @@
 //! The walk once round the slots of a pool.
-ghost use Rattle.std.specs.Prelude.{◌≡◌, ℕ, ◌+◌, ◌*◌, ◌^◌, ◌<◌, ◌≤◌, false, length, None, MatchOption};
+ghost use Rattle.std.specs.Prelude.{◌≡◌, ℕ, ◌+◌, ◌*◌, ◌^◌, ◌<◌, ◌≤◌, length, None, MatchOption};
 ghost use Rattle.cell_table.specs.Pass.{trail_of};
 ghost use Rattle.attempt_lists.specs.Cells.{word_at};
-ghost use Rattle.tx_core.specs.declared.stop.TxState.TheVariants.{Running};
-ghost use Rattle.tx_core.specs.Causes.{FoundSince, GrewBy};
-ghost use Rattle.tx_pool.specs.Steps.{Tells, WalkTells, UnfitBy, IsNoUnfit};
-ghost use Rattle.tx_pool.specs.Walk.{HasWord, IsFit, MayCall};
+ghost use Rattle.tx_core.specs.Causes.{FoundSince};
+ghost use Rattle.tx_core.specs.Calls.{MayCall, StepsAt};
+ghost use Rattle.tx_pool.specs.Pool.{IsPoolOf, IsSlot};
+ghost use Rattle.tx_pool.specs.Steps.{Tells, WalkTells, UnfitBy};
 ghost use Rattle.tx_pool.specs.declared.walk.Walked.TheVariants.{NoneFit, Stopped};
 
 use crate::part::PoolPart;
@@ -44,10 +44,11 @@ pub(crate) fn walk<M: Meaning>(
     from: u32,
     wanted: Wanted,
 ) -> Walked
-    requires callable { MayCall part.now tx.old }
+    requires callable { MayCall tx.old }
+    requires part { IsPoolOf part.now tx.old.table.opening }
     requires small { part.now.base + part.now.slots ≤ 2 ^ 32 }
     ensures tells { WalkTells part.now from wanted tx.old tx.new result }
-    ensures steps { GrewBy (6 * part.now.slots) (trail_of tx.old.pass) (trail_of tx.new.pass) }
+    ensures does { StepsAt (IsSlot part.now) (6 * part.now.slots) tx.old tx.new }
 {
     let start = from % part.slots;
     let mut first = None;
@@ -75,42 +76,23 @@ fn ended(first: Option<Stop>) -> Walked
 
 /// Looks at a slot, and holds it where its word is a wanted one.
 pub(crate) fn try_slot<M: Meaning>(tx: &mut Tx<'_, M>, cell: u32, wanted: Wanted) -> Tried
-    requires running { tx.old.state ≡ Running }
-    requires before_commit { tx.old.committing ≡ false }
+    requires callable { MayCall tx.old }
     requires cell { cell < length tx.old.table.opening }
     ensures tells { Tells wanted tx.old tx.new cell result }
     ensures looked { word_at tx.old.writes cell ≡ None → word_at tx.old.observations cell ≡ None → (w : ℕ) × FoundSince (length (trail_of tx.old.pass)) (trail_of tx.new.pass) cell w }
-    ensures steps { GrewBy 6 (trail_of tx.old.pass) (trail_of tx.new.pass) }
+    ensures does { StepsAt (λ c. c ≡ cell) 6 tx.old tx.new }
     ensures looks { UnfitBy 3 (trail_of tx.old.pass) (trail_of tx.new.pass) result }
 {
-    match tx.peek(cell) {
-        Err(stop) => Tried::Stopped(stop),
-        Ok(word) => {
-            if wanted.fits(word) {
-                hold_slot(tx, cell, wanted, word)
-            } else {
-                Tried::Unfit
-            }
-        }
+    let word = match tx.peek(cell) {
+        Ok(word) => word,
+        Err(stop) => return Tried::Stopped(stop),
+    };
+    if !wanted.fits(word) {
+        return Tried::Unfit;
     }
-}
-
-// Holds a slot whose word was found to be a wanted one.
-fn hold_slot<M: Meaning>(tx: &mut Tx<'_, M>, cell: u32, wanted: Wanted, word: u64) -> Tried
-    requires running { tx.old.state ≡ Running }
-    requires before_commit { tx.old.committing ≡ false }
-    requires cell { cell < length tx.old.table.opening }
-    requires word { HasWord tx.old tx.old.pass cell word }
-    requires fit { IsFit wanted word }
-    ensures tells { Tells wanted tx.old tx.new cell result }
-    ensures held { IsNoUnfit result }
-    ensures steps { GrewBy 3 (trail_of tx.old.pass) (trail_of tx.new.pass) }
-{
-    let _ = wanted;
-    let _ = word;
     match tx.try_hold(cell) {
         Ok(found) => {
-            tx.agreed();
+            tx.agreed_law();
             Tried::Holds(found)
         }
         Err(Stop::Memory) => Tried::Memory,

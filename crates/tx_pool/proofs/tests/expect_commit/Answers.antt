@@ -1,9 +1,8 @@
-use Rattle.std.proofs.Common.{◌≡◌, ℕ, ◌-◌, ◌<◌, true, List, [], ◌∷◌, length, IsSome, sym, ap, subst, arith}
+use Rattle.std.proofs.Common.{◌≡◌, ℕ, ◌<◌, true, List, [], ◌∷◌, length, IsSome, ap, arith}
 use Rattle.std.proofs.lemmas.Bool.Decides.{nat_tests}
 use Rattle.cell_table.specs.Cells.{has}
 use Rattle.cell_table.specs.Rule.{cells_of}
-use Rattle.cell_table.specs.Steps.{Observes}
-use Rattle.attempt_lists.specs.Cells.{Entries, cell_at, word_of, word_at}
+use Rattle.attempt_lists.specs.Cells.{Entries, cell_at, word_at}
 use Rattle.tx_core.specs.Tx.{Attempt}
 use Rattle.tx_pool.proofs.tests.expect_commit.Goals as goal
 
@@ -16,10 +15,6 @@ held_none [] c here none = cc
 held_none (t ∷ ts) c here none = cc
 
 pub draw_and_check-requires-clause-holds : goal.draw_and_check-requires-clause-holds
-draw_and_check-requires-clause-holds g c = held_none _ _ (c.in-Ok.ensures.all_held (cell_at c.args.tx.writes 0) (first_written c.args.tx.writes c.requires.writes))
-
-pub publish-requires-clause-checked : goal.publish-requires-clause-checked
-publish-requires-clause-checked g c =
-    let w = c.in-Ok-draw_and_check in
-    let same = ap (λ (a : Attempt _ _). a.observations) w.ensures.same in
-    (w.drawn, w.ensures.drawn.0, subst (λ (os : Entries). (i : ℕ) → i < length os → Observes c.draw_and_check.new.self.pass.view (cell_at os i) (word_of os i) (w.drawn - 1)) (sym same) w.ensures.check)
+draw_and_check-requires-clause-holds g c =
+    let some : 0 < length c.lock_writes.new.self.writes = rw (ap (λ (a : Attempt _ _). a.writes) c.in-Ok.ensures.same) c.requires.writes in
+    held_none _ _ (c.in-Ok.ensures.all_held (cell_at c.lock_writes.new.self.writes 0) (first_written c.lock_writes.new.self.writes some))
