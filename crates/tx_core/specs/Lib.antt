@@ -7,3 +7,4 @@ pub mod Parts
 pub mod Calls
 pub mod Words
 pub mod Facts
+pub mod Sequences

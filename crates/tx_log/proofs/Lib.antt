@@ -1,9 +1,9 @@
 pub mod Logs
+pub mod Serial
 pub mod Placing
 pub mod Replies
 pub mod OneRead
 pub mod Spares
-pub mod Touching
 pub mod ReadAnswers
 pub mod OneHold
 pub mod Placings

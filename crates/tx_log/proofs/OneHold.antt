@@ -1,31 +1,24 @@
 -- What the lock of one cell in the commit leaves of an attempt, and a write under it.
-use Rattle.std.proofs.Common.{◌≡◌, ◌≢◌, ℕ, Bool, true, false, [], ◌∷◌, ◌++◌, ◌-◌, ◌⊎◌, inl, inr, Some, None, refl, sym, ap, subst, ◌∙◌, arith, append-nil}
+use Rattle.std.proofs.Common.{◌≡◌, ℕ, ◌+◌, ◌*◌, ◌≤◌, Bool, true, false, [], ◌∷◌, ◌++◌, ◌-◌, ◌⊎◌, inl, inr, length, Some, None, refl, sym, ap, subst, ◌∙◌, arith}
 use Rattle.std.specs.Prelude.{Option, IsSome}
 use Rattle.std.specs.Option.{option_or}
-use Rattle.std.proofs.lemmas.Bool.Decides.{nat_tests}
 use Rattle.cell_table.specs.Cells.{has}
 use Rattle.cell_table.specs.Rule.{cells_of}
 use mathlib.Core.Logic.{dite}
 use native.Mathlib.Decide.{ℕ_discrete}
-use Rattle.cell_table.specs.Pass.{PassState, IsHeld}
+use Rattle.cell_table.specs.Pass.{PassState, IsHeld, trail_of}
 use Rattle.attempt_lists.specs.Cells.{Entries, word_at, put}
-use Rattle.attempt_lists.proofs.LaidOver.{word_at-put}
-use Rattle.tx_core.specs.Seen.{SameOthers}
+use Rattle.tx_core.specs.Calls.{TouchesOnly, UsesAtMost, HoldsWrites, Locks}
+use Rattle.tx_core.specs.Causes.{GrewBy}
+use Rattle.tx_core.specs.Facts.{grew_none, grew_more, grew_trans, held_kept, length_insert}
+use Rattle.tx_core.specs.Sequences.{LocksUpTo}
 use Rattle.tx_core.specs.Tx.{Attempt, ObservedLate}
-use Rattle.tx_log.specs.Calls.{TouchesOnly}
-use Rattle.tx_log.specs.Placing.{UsesAtMost, KeepsHeld, HoldsWrites}
+use Rattle.tx_core.specs.Words.{put_other}
 
 known_or_not : (w o : Option ℕ) → ((w ≡ None) × (o ≡ None)) ⊎ IsSome (option_or w o)
 known_or_not (Some x) o = inr refl
 known_or_not None (Some x) = inr refl
 known_or_not None None = inl (refl, refl)
-
--- other cells' writes stay
-pub put_other : (es : Entries) (cell word c : ℕ) → cell ≢ c → word_at (put es cell word) c ≡ word_at es c
-put_other es cell word c off = grind (arith, nat_tests, word_at-put es cell word c, off)
-
-pub put_same : (es : Entries) (cell word : ℕ) → word_at (put es cell word) cell ≡ Some word
-put_same es cell word = grind (arith, nat_tests, word_at-put es cell word cell)
 
 module _ {M D : Type 0} where
   -- a call of the commit that took the lock of a cell: what was observed is as before, or one observation of the cell more
@@ -52,12 +45,11 @@ module _ {M D : Type 0} where
         | inr some ↦ let e = known is some in let sp : b.spare ≡ record a.spare { locks = a.spare.locks - 1 } = ap (λ (t : Attempt M D). t.spare) e in record { used = rw sp (record { locks = omega arith; observations = omega arith; writes = omega arith }); seen = inl (ap (λ (t : Attempt M D). t.observations) e); is = e ∙ sym (ap (locked_as a) e) }
       ]
 
-  -- the other cells are held as before, and this one is held
-  pub keeps_held : (a b : Attempt M D) (cell : ℕ) → SameOthers a.pass b.pass cell → IsHeld b.pass cell → KeepsHeld a b
-  keeps_held a b cell others held c was = dite (ℕ_discrete c cell) (λ same. rw same held) (λ apart. others c apart ∙ was)
+  pub late_writes : (a b : Attempt M D) (cell : ℕ) → IsLateHold a b cell → (b.writes ≡ a.writes) × (b.additions ≡ a.additions)
+  late_writes a b cell late = (ap (λ (t : Attempt M D). t.writes) late.is, ap (λ (t : Attempt M D). t.additions) late.is)
 
-  pub holds_late : (a b : Attempt M D) (cell : ℕ) → IsLateHold a b cell → SameOthers a.pass b.pass cell → IsHeld b.pass cell → HoldsWrites a → HoldsWrites b
-  holds_late a b cell late others held all c some = keeps_held a b cell others held c (all c (rw (ap (λ (t : Attempt M D). word_at t.writes c) late.is) at some))
+  pub holds_late : (P : ℕ → Type 0) (a b : Attempt M D) (cell : ℕ) → IsLateHold a b cell → TouchesOnly P a b → HoldsWrites a → HoldsWrites b
+  holds_late P a b cell late touches all c some = held_kept P a b touches c (all c (rw (ap (λ (t : Attempt M D). word_at t.writes c) late.is) at some))
 
   -- one more cell that is held is written
   pub holds_put : (b d : Attempt M D) (cell x : ℕ) → HoldsWrites b → IsHeld b.pass cell → d.writes ≡ put b.writes cell x → d.pass ≡ b.pass → HoldsWrites d
@@ -67,24 +59,32 @@ module _ {M D : Type 0} where
   pub locked_and_checked : (a b d : Attempt M D) (cell : ℕ) → IsLateHold a b cell → d ≡ record b { pass = d.pass; committing = true } → d ≡ locked_as a d
   locked_and_checked a b d cell late checked = let e = checked ∙ ap (λ (t : Attempt M D). record t { pass = d.pass; committing = true }) late.is in e ∙ sym (ap (locked_as a) e)
 
-  -- the lock, and then a write of the cell
-  pub touches_late : (P : ℕ → Type 0) (a b c : Attempt M D) (cell x : ℕ) → P cell → IsLateHold a b cell → SameOthers a.pass b.pass cell → c.observations ≡ b.observations → c.writes ≡ put b.writes cell x → c.pass ≡ b.pass → TouchesOnly P a c
-  touches_late P a b c cell x of late others seen writes pass = record {
-    observed = elim late.seen [
-      | inl same ↦ ([], seen ∙ same ∙ sym (append-nil a.observations), tt)
-      | inr more ↦ ((cell, more.0) ∷ [], seen ∙ more.1, (of, tt))
-    ];
-    written = λ k off. let apart : cell ≢ k = λ same. off (subst P same of) in ap (λ (w : Entries). word_at w k) writes ∙ put_other b.writes cell x k apart ∙ ap (λ (t : Attempt M D). word_at t.writes k) late.is;
-    held = λ k off. let apart : k ≢ cell = λ same. off (subst P (sym same) of) in ap (λ (p : PassState M D). has k (cells_of p.view.held)) pass ∙ others k apart;
+-- ---- how many cells are held
+
+module _ {M D : Type 0} where
+  pub locks_none : (p q : PassState M D) → q ≡ p → LocksUpTo 0 p q
+  locks_none p q is = subst (LocksUpTo 0 p) (sym is) (record { least = omega arith; most = omega arith; steps = grew_more 0 _ _ _ (omega arith) (grew_none (trail_of p)) })
+
+  pub locks_trans : (n m : ℕ) (p q r : PassState M D) → LocksUpTo n p q → LocksUpTo m q r → LocksUpTo (n + m) p r
+  locks_trans n m p q r a b = record {
+    least = omega (arith, a.least, b.least);
+    most = omega (arith, a.most, b.most);
+    steps = grew_more (3 * (length q.view.held - length p.view.held) + 3 * (length r.view.held - length q.view.held)) _ _ _ (omega (arith, a.least, b.least)) (grew_trans _ _ _ _ _ a.steps b.steps);
   }
 
-  -- the lock alone
-  pub touches_hold : (P : ℕ → Type 0) (a b : Attempt M D) (cell : ℕ) → P cell → IsLateHold a b cell → SameOthers a.pass b.pass cell → TouchesOnly P a b
-  touches_hold P a b cell of late others = record {
-    observed = elim late.seen [
-      | inl same ↦ ([], same ∙ sym (append-nil a.observations), tt)
-      | inr more ↦ ((cell, more.0) ∷ [], more.1, (of, tt))
-    ];
-    written = λ k off. ap (λ (t : Attempt M D). word_at t.writes k) late.is;
-    held = λ k off. let apart : k ≢ cell = λ same. off (subst P (sym same) of) in others k apart;
-  }
+  pub locks_wider : (n m : ℕ) (p q : PassState M D) → n ≤ m → LocksUpTo n p q → LocksUpTo m p q
+  locks_wider n m p q le a = record { least = a.least; most = omega (arith, le, a.most); steps = a.steps }
+
+  -- a lock of the commit
+  pub locks_late : (a b : Attempt M D) (cell : ℕ)
+      → (has cell (cells_of a.pass.view.held) ≡ true → b ≡ record a { committing = true })
+      → (has cell (cells_of a.pass.view.held) ≡ false → (u : ℕ) × Locks a b cell u)
+      → GrewBy 3 (trail_of a.pass) (trail_of b.pass) → LocksUpTo 1 a.pass b.pass
+  locks_late a b cell already takes grew = by (has cell (cells_of a.pass.view.held)) refl
+    where
+      by : (h : Bool) → has cell (cells_of a.pass.view.held) ≡ h → LocksUpTo 1 a.pass b.pass
+      by true is = locks_wider 0 1 a.pass b.pass (omega arith) (locks_none a.pass b.pass (ap (λ (s : Attempt M D). s.pass) (already is)))
+      by false is =
+          let took = takes is in
+          let more : length b.pass.view.held ≡ length a.pass.view.held + 1 = ap length took.1 ∙ length_insert (cell, took.0) a.pass.view.held in
+          record { least = omega (arith, more); most = omega (arith, more); steps = grew_more 3 _ _ _ (omega (arith, more)) grew }

@@ -7,7 +7,7 @@ use Rattle.tx_core.specs.Tx.{Attempt, Observed}
 use Rattle.tx_core.specs.Parts.{Shows}
 use Rattle.tx_log.specs.declared.part.LogPart.{LogPart}
 use Rattle.tx_log.specs.Log.{IsLog, length_in, word_in}
-use Rattle.tx_log.proofs.Logs.{length-after}
+use Rattle.tx_core.specs.Words.{length_after}
 
 module _ {M D : Type 0} where
   -- nothing is new, or one observation is
@@ -33,10 +33,10 @@ module _ {M D : Type 0} where
   module _ (log : LogPart) where
     -- what is known of the end is the length
     pub length_shown : (a : Attempt M D) (n : ℕ) (cells : List ℕ) → Shows a log.end n → AllHold cells a.observations → IsLog log (after cells a.writes) → length_in log (after cells a.writes) ≡ n
-    length_shown a n cells shows all is = shows cells all (omega (arith, is.in_table, length-after cells a.writes))
+    length_shown a n cells shows all is = shows cells all (omega (arith, is.in_table, length_after a.writes cells))
 
     pub word_shown : (a : Attempt M D) (i w : ℕ) (cells : List ℕ) → i < log.capacity → Shows a (log.end + 1 + i) w → AllHold cells a.observations → IsLog log (after cells a.writes) → word_in log (after cells a.writes) i ≡ w
-    word_shown a i w cells lt shows all is = shows cells all (omega (arith, is.in_table, length-after cells a.writes))
+    word_shown a i w cells lt shows all is = shows cells all (omega (arith, is.in_table, length_after a.writes cells))
 
 module _ {M D : Type 0} where
   -- the lock of a cell was taken, and no more than its observation is new

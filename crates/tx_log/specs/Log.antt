@@ -1,5 +1,7 @@
--- The log that cells stand for.
-use Rattle.std.specs.Prelude.{◌≡◌, ℕ, ◌+◌, ◌-◌, ◌<◌, ◌≤◌, List, length, map, take, drop, slice_index}
+-- The log that cells stand for, and what each call makes of it.
+use Rattle.std.specs.Prelude.{◌≡◌, ℕ, ◌+◌, ◌-◌, ◌<◌, ◌≤◌, ◌⊎◌, List, [], ◌∷◌, ◌++◌, length, map, take, drop, slice_index, slice_get, Option}
+use Rattle.tx_core.specs.Tx.{Attempt}
+use Rattle.tx_core.specs.Sequences.{CellSequence, Makes}
 use Rattle.tx_log.specs.declared.part.LogPart.{LogPart}
 
 -- how many entries are there
@@ -24,3 +26,40 @@ pub record IsLog (log : LogPart) (cells : List ℕ) : Type 0 where
 -- the cell is the log's end or one of its entries
 abbrev pub IsOfLog : LogPart → ℕ → Type 0
 IsOfLog log c = (log.end ≤ c) × (c ≤ log.end + log.capacity)
+
+-- a read at place i looks at the entry, where there is such a one, and at the end
+abbrev pub IsReadOf : LogPart → ℕ → ℕ → Type 0
+IsReadOf log i c = (c ≡ log.end) ⊎ ((i < log.capacity) × (c ≡ log.end + 1 + i))
+
+-- the log as a sequence in cells: its end's word is the length
+abbrev pub sequence_of : LogPart → CellSequence
+sequence_of log = record { part = log.part; end = log.end; capacity = log.capacity; length_of = λ w. w; cell_of = λ w i. log.end + 1 + i; stored = λ v. v + 1 }
+
+abbrev pub MakesOf : {M D : Type 0} → LogPart → Attempt M D → Attempt M D → (List ℕ → List ℕ → Type 0) → Type 0
+MakesOf log old new P = Makes (IsLog log) (values_in log) log.part old new P
+
+-- ---- the values before a call and after it
+
+-- the value was added
+abbrev pub Appends : ℕ → List ℕ → List ℕ → Type 0
+Appends value before after = after ≡ before ++ value ∷ []
+
+-- the value was added at this place
+abbrev pub AppendsAt : ℕ → ℕ → List ℕ → List ℕ → Type 0
+AppendsAt value place before after = (place ≡ length before) × (after ≡ before ++ value ∷ [])
+
+-- x is what stands at place i
+abbrev pub HasAt : ℕ → Option ℕ → List ℕ → List ℕ → Type 0
+HasAt i x before after = (x ≡ slice_get before i) × (after ≡ before)
+
+-- n is the number of values
+abbrev pub HasLength : ℕ → List ℕ → List ℕ → Type 0
+HasLength n before after = (n ≡ length before) × (after ≡ before)
+
+-- they have the length n with the additions, which is at most the capacity
+abbrev pub Settles : ℕ → List ℕ → List ℕ → Type 0
+Settles capacity before after = (after ≡ before) × (length after ≤ capacity)
+
+-- with the additions there are n of them, and nothing was placed
+abbrev pub Exceeds : ℕ → List ℕ → List ℕ → Type 0
+Exceeds n before after = (length before ≡ n) × (after ≡ before)

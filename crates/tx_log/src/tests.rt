@@ -1,11 +1,11 @@
-ghost use Rattle.std.specs.Prelude.{◌≡◌, ◌≢◌, ℕ, ◌+◌, ◌-◌, ◌^◌, ◌<◌, false, [], length, All};
+ghost use Rattle.std.specs.Prelude.{◌≡◌, ◌≢◌, ℕ, ◌+◌, ◌-◌, ◌^◌, ◌<◌, [], length, All};
 ghost use Rattle.cell_table.specs.Steps.{IsIdle};
 ghost use Rattle.cell_table.specs.Pass.{IsPassOf};
-ghost use Rattle.tx_core.specs.declared.stop.TxState.TheVariants.{Running};
-ghost use Rattle.tx_log.specs.Calls.{waiting};
+ghost use Rattle.tx_core.specs.Calls.{MayCall, waiting};
 
 use crate::LogPart;
 use cell_table::{CellTable, Pass};
+use std::alloc::Global;
 use std::process::Abort;
 use std::test::Fail;
 use tx_core::{ResolveEnd, Tx, TxState, Untold};
@@ -16,37 +16,68 @@ const TWO: LogPart = LogPart {
     capacity: 2,
 };
 
-// Commits an attempt whose log has room for what it adds.
+// Commits an attempt that adds to this log alone, which has room for it.
 fn commit(rt: &impl Abort, mut tx: Tx<'_, Untold>) -> Pass<Untold>
-    requires running { tx.state ≡ Running }
-    requires first { tx.committing ≡ false }
+    requires callable { MayCall tx }
     requires part { 2 < length tx.table.opening }
-    requires small { All (λ v. v + 1 < 2 ^ 64) (waiting TWO tx) }
-    requires some { waiting TWO tx ≢ [] }
+    requires small { All (λ v. v < 2 ^ 64 - 1) (waiting 0 tx) }
+    requires some { waiting 0 tx ≢ [] }
+    requires alone { (part : ℕ) → part ≢ 0 → waiting part tx ≡ [] }
     requires left { 0 < tx.pass.view.draws }
     ensures of { IsPassOf tx.entry.table result }
     ensures idle { IsIdle result.view }
     ensures draws { result.view.draws ≡ tx.entry.pass.view.draws - 1 }
 {
-    tx.provided();
-    tx.vouched();
-    tx.lock_writes().expect(rt, "nothing is to be locked");
-    TWO.resolve(&mut tx).expect(rt, "the additions are placed");
-    tx.draw_and_check().expect(rt, "nothing has changed");
+    tx.provided_law();
+    tx.vouched_law();
+    let Ok(()) = tx.lock_writes() else {
+        panic!(rt; "nothing is to be locked");
+    };
+    let Ok(()) = TWO.resolve(&mut tx) else {
+        panic!(rt; "the additions are placed");
+    };
+    let Ok(_) = tx.draw_and_check() else {
+        panic!(rt; "nothing has changed");
+    };
     tx.publish()
+}
+
+// Begins an attempt that adds a value to this log, and nothing else.
+fn begin_adding<'a>(
+    rt: &impl Abort,
+    alloc: Global,
+    table: &'a CellTable<Untold>,
+    pass: Pass<Untold>,
+    value: u64,
+) -> Tx<'a, Untold>
+    requires of { IsPassOf table.now pass }
+    requires idle { IsIdle pass.view }
+    requires draw { 0 < pass.view.draws }
+    requires value { value < 2 ^ 64 - 1 }
+    ensures table { result.table ≡ table.now }
+    ensures callable { MayCall result }
+    ensures small { All (λ v. v < 2 ^ 64 - 1) (waiting 0 result) }
+    ensures some { waiting 0 result ≢ [] }
+    ensures alone { (part : ℕ) → part ≢ 0 → waiting part result ≡ [] }
+    ensures draws { result.pass.view.draws ≡ pass.view.draws }
+{
+    let Ok(mut tx) = Tx::begin(alloc, table, pass) else {
+        panic!(rt; "the attempt begins");
+    };
+    TWO.append(&mut tx, value).expect(rt, "the value is added");
+    tx
 }
 
 // Expects that the additions that wait make the log too long, and that the attempt goes on.
 fn expect_full(rt: &impl Abort, tx: &mut Tx<'_, Untold>, there: u64, adding: u64)
-    requires running { tx.old.state ≡ Running }
-    requires first { tx.old.committing ≡ false }
+    requires callable { MayCall tx.old }
     requires part { 2 < length tx.old.table.opening }
-    requires small { All (λ v. v + 1 < 2 ^ 64) (waiting TWO tx.old) }
+    requires small { All (λ v. v < 2 ^ 64 - 1) (waiting 0 tx.old) }
     ensures table { tx.new.table ≡ tx.old.table }
     ensures draws { tx.new.pass.view.draws ≡ tx.old.pass.view.draws }
 {
-    tx.provided();
-    tx.vouched();
+    tx.provided_law();
+    tx.vouched_law();
     let full = ResolveEnd::Full {
         part: 0,
         length: there,
@@ -119,15 +150,8 @@ fn a_log_may_be_filled_to_its_capacity(rt: HostRuntime) -> Result<(), Fail> {
 fn two_callers_add_without_stopping_one_another(rt: HostRuntime) -> Result<(), Fail> {
     let (table, mut pass) = CellTable::open(rt.alloc(), Untold, &[0, 0, 0], 2)?;
     let other = pass.split(rt.alloc(), &table, 1)?;
-    let Ok(mut first) = Tx::begin(rt.alloc(), &table, pass) else {
-        panic!(rt; "the first attempt begins");
-    };
-    let Ok(mut second) = Tx::begin(rt.alloc(), &table, other) else {
-        panic!(rt; "the second attempt begins");
-    };
-    TWO.append(&mut first, 10).expect(&rt, "the value is added");
-    TWO.append(&mut second, 20)
-        .expect(&rt, "the value is added");
+    let first = begin_adding(&rt, rt.alloc(), &table, pass, 10);
+    let second = begin_adding(&rt, rt.alloc(), &table, other, 20);
     let other = commit(&rt, second);
     let mut pass = commit(&rt, first);
     assert_eq!(rt; (other.seen(), pass.seen()), (1, 2));
