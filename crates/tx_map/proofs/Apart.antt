@@ -6,9 +6,14 @@ use Rattle.attempt_lists.specs.Cells.{Entries}
 use Rattle.cell_table.specs.Sorted.{Each}
 use Rattle.cell_table.specs.Cells.{after}
 use Rattle.tx_map.specs.declared.part.MapPart.{MapPart}
-use Rattle.tx_map.specs.Map.{IsFormed, IsOutside, map_of}
+use Rattle.tx_map.specs.Map.{IsFormed, IsOutside, map_of, SameCells}
 
 module _ (part : MapPart) where
+  pub same_map : (a b : List ℕ) → SameCells part a b → map_of part a ≡ map_of part b
+  same_map a b same = fun_ext (λ position.
+      let at : position < part.capacity → get_or a (part.base + position) 0 ≡ get_or b (part.base + position) 0 = λ inside. same.words (part.base + position) (omega arith, omega (arith, inside)) in
+      grind (arith, nat_tests, at))
+
   pub formed-after : (cells : List ℕ) (ws : Entries) → IsFormed part cells → IsFormed part (after cells ws)
   formed-after cells [] formed = formed
   formed-after cells (w ∷ ws) formed = formed-after (set cells w.0 w.1) ws (omega (arith, formed, length-set cells w.0 w.1))

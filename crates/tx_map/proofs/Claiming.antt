@@ -1,67 +1,97 @@
 -- What a claim leaves, for the call that made it.
-use Rattle.std.proofs.Common.{◌≡◌, ℕ, ◌<◌, List, [], ◌∷◌, ◌++◌, Result, Ok, Err, Contains, IfOk, OnOk, false, true, sym, ap, subst}
-use Rattle.std.proofs.lemmas.List.Elements.{Contains-push}
+use Rattle.std.proofs.Common.{◌≡◌, ℕ, ◌*◌, ◌<◌, ◌≤◌, ◌↔◌, List, [], ◌∷◌, ◌++◌, length, Option, Some, None, IsSome, Result, Ok, Err, Contains, unwrap_or, refl, sym, ap, subst, ◌∙◌, false, true, arith}
+use Rattle.std.proofs.lemmas.List.Elements.{Contains-push, Contains-append_left}
 use Rattle.key_directory.specs.Words.{capacity_of, OnlyBelow}
-use Rattle.key_directory.specs.Directory.{DirectoryView, PassView, Claimed, claim_of, steps_since, AreAllOthers}
+use Rattle.key_directory.specs.Directory.{DirectoryView, PassView, Claimed, claim_of, position_in, steps_since, AreAllOthers, Walks}
+use Rattle.key_directory.specs.declared.directory.KeysFull.{KeysFull as Full}
 use Rattle.key_directory.specs.declared.view.Claim.{Claim}
 use Rattle.tx_map.specs.declared.part.MapPart.{MapPart}
-use Rattle.tx_core.specs.declared.stop.Stop.{Stop as AttemptStop}
 use Rattle.tx_map.specs.declared.part.MapStop.{MapStop}
 use Rattle.tx_map.specs.declared.part.MapStop.TheVariants.{Stop, KeysFull}
-use Rattle.tx_map.specs.Calls.{IsRegionOf, ClaimsKey, IfFull, IfStopped}
+use Rattle.tx_map.specs.Calls.{IsRegionOf, HasKey, position_of, ClaimsKey, IfFull}
 
--- what was claimed last is claimed
-pub claimed_last : (old new : List Claim) (region key position : ℕ) → new ≡ old ++ claim_of region key position ∷ [] → Claimed new region key position
-claimed_last old new region key position is = subst (λ (claims : List Claim). Contains claims (claim_of region key position)) (sym is) (Contains-push old (claim_of region key position))
+some_of : (o : Option ℕ) → IsSome o → o ≡ Some (unwrap_or o 0)
+some_of (Some x) h = refl
+some_of None h = absurd (cc)
 
-module _ (part : MapPart) (passes : ℕ → ℕ → Type 0) (key : ℕ) (old new : PassView) (directory : DirectoryView) (of : old.directory ≡ directory) (region : IsRegionOf part directory) (same : (new.directory ≡ old.directory) × (new.callers ≡ old.callers) × (new.room ≡ old.room)) (trail : new.trail ≡ old.trail ++ steps_since old new) where
+-- the steps of a claim are at most two a position of the region
+walks_bounded : (capacities : List ℕ) (region key : ℕ) (steps : List _) (result : Result ℕ Full) → Walks capacities region key steps result → length steps ≤ 2 * capacity_of capacities region
+walks_bounded capacities region key steps (Ok position) w = let low = w.1 in let few = w.3.bounded in omega arith
+walks_bounded capacities region key steps (Err e) w = w.bounded
+
+module _ (claims : List Claim) (positions : (r k p : ℕ) → Claimed claims r k p ↔ (position_in claims r k ≡ Some p)) where
+  position_is : (r k p : ℕ) → Claimed claims r k p → unwrap_or (position_in claims r k) 0 ≡ p
+  position_is r k p there = ap (λ (o : Option ℕ). unwrap_or o 0) ((positions r k p).0 there)
+
+  has_one : (r k p : ℕ) → Claimed claims r k p → IsSome (position_in claims r k)
+  has_one r k p there = rw ((positions r k p).0 there)
+
+module _ (part : MapPart) (passes : ℕ → ℕ → Type 0) (key : ℕ) (old new : PassView) (directory : DirectoryView) (of : old.directory ≡ directory) (region : IsRegionOf part directory)
+    (same : (new.directory ≡ old.directory) × (new.callers ≡ old.callers) × (new.room ≡ old.room)) (trail : new.trail ≡ old.trail ++ steps_since old new)
+    (positions : (r k p : ℕ) → Claimed old.claims r k p ↔ (position_in old.claims r k ≡ Some p)) (positions' : (r k p : ℕ) → Claimed new.claims r k p ↔ (position_in new.claims r k ≡ Some p)) where
   same_pass : new ≡ record old { claims = new.claims; trail = new.trail }
   same_pass i = record { directory = same.0 i; callers = same.1 i; room = same.2 i; claims = new.claims; trail = new.trail }
 
-  -- all positions were found to hold other keys
-  abbrev pub Others : Type 0
-  Others = AreAllOthers directory.capacities (steps_since old new) part.region key
+  -- a key that had a position has it
+  keeps : ((k p : ℕ) → Claimed old.claims part.region k p → Claimed new.claims part.region k p) → (k : ℕ) → HasKey part old k → HasKey part new k × (position_of part new k ≡ position_of part old k)
+  keeps grown k has =
+      let there = grown k (position_of part old k) ((positions part.region k (position_of part old k)).1 (some_of (position_in old.claims part.region k) has)) in
+      (has_one new.claims positions' part.region k (position_of part old k) there, position_is new.claims positions' part.region k (position_of part old k) there)
 
-  others : AreAllOthers old.directory.capacities (steps_since old new) part.region key ≡ Others
-  others = ap (λ (d : DirectoryView). AreAllOthers d.capacities (steps_since old new) part.region key) of
+  only : (k p : ℕ) → Claimed new.claims part.region k p → p ≡ position_of part new k
+  only k p there = sym (position_is new.claims positions' part.region k p there)
 
-  -- the claim answered a position
-  pub claims_key : {A : Type 0} → (a : A) (position : ℕ) → position < capacity_of directory.capacities part.region → new.claims ≡ old.claims ++ claim_of part.region key position ∷ []
-      → (Others → false ≡ true) → (OnlyBelow passes (capacity_of directory.capacities part.region) → position ≡ key) → ClaimsKey part passes key old new (Ok a)
-  claims_key a position there claimed full own = record {
-    pass = same_pass;
-    trail = trail;
-    claimed = (position, rw (← region.1) there, claimed);
-    full = (λ none. absurd none, λ all. (let e : false ≡ true = full (subst (λ (T : Type 0). T) others all) in cc));
-    refused = tt;
-    own_number = λ only. (
-      subst (λ (p : ℕ). Claimed new.claims part.region key p) (own (rw region.1 only)) (claimed_last old.claims new.claims part.region key position claimed),
-      λ none. none,
-    );
-  }
+  abbrev Others : DirectoryView → Type 0
+  Others d = AreAllOthers d.capacities (steps_since old new) part.region key
+
+  module _ (result : Result ℕ Full) (walks : Walks directory.capacities part.region key (steps_since old new) result) where
+    steps : length (steps_since old new) ≤ 2 * part.capacity
+    steps = subst (λ (n : ℕ). length (steps_since old new) ≤ 2 * n) region.1 (walks_bounded directory.capacities part.region key (steps_since old new) result walks)
+
+    -- the claim answered a position
+    module _ (position : ℕ) (inside : position < capacity_of directory.capacities part.region) (claims : new.claims ≡ old.claims ++ claim_of part.region key position ∷ []) where
+      here : Claimed new.claims part.region key position
+      here = subst (λ (cs : List Claim). Contains cs (claim_of part.region key position)) (sym claims) (Contains-push old.claims (claim_of part.region key position))
+
+      grown : (k p : ℕ) → Claimed old.claims part.region k p → Claimed new.claims part.region k p
+      grown k p there = subst (λ (cs : List Claim). Claimed cs part.region k p) (sym claims) (Contains-append_left old.claims (claim_of part.region key position ∷ []) (claim_of part.region k p) there)
+
+      pub is_position : position ≡ position_of part new key
+      is_position = only key position here
+
+      pub claims_ok : {A : Type 0} → (a : A) → (Others directory → false ≡ true) → (OnlyBelow passes (capacity_of directory.capacities part.region) → position ≡ key) → ClaimsKey part passes key old new (Ok a)
+      claims_ok a full own = record {
+        pass = same_pass;
+        stays = keeps grown;
+        only = only;
+        trail = trail;
+        steps = steps;
+        claimed = record {
+          has = has_one new.claims positions' part.region key position here;
+          inside = subst (λ (p : ℕ). p < part.capacity) is_position (rw (← region.1) inside);
+          claims = claims ∙ ap (λ (p : ℕ). old.claims ++ claim_of part.region key p ∷ []) is_position;
+        };
+        full = (λ none. absurd none, λ all. (let e : false ≡ true = full (subst Others of all) in cc));
+        refused = tt;
+        own_number = λ below. (λ none. none, sym is_position ∙ own (rw region.1 below));
+      }
+
+    -- the claim found the region full
+    pub claims_full : {A : Type 0} → (capacity : ℕ) → new.claims ≡ old.claims → capacity ≡ capacity_of directory.capacities part.region → Others directory → (OnlyBelow passes (capacity_of directory.capacities part.region) → ⊥) → ClaimsKey part {A = A} passes key old new (Err (KeysFull capacity))
+    claims_full capacity claims names full never = record {
+      pass = same_pass;
+      stays = keeps (λ k p there. subst (λ (cs : List Claim). Claimed cs part.region k p) (sym claims) there);
+      only = only;
+      trail = trail;
+      steps = steps;
+      claimed = tt;
+      full = (λ _. subst Others (sym of) full, λ _. tt);
+      refused = (names ∙ region.1, claims);
+      own_number = λ below. (λ _. never (rw region.1 below), tt);
+    }
 
 -- how a call ends after its claim says nothing else of the claim
 pub claims_go_on : {A B : Type 0} → (part : MapPart) (passes : ℕ → ℕ → Type 0) (key : ℕ) (old new : PassView) (a : A) (r : Result B MapStop) → IfFull r (λ capacity. ⊥) → ClaimsKey part passes key old new (Ok a) → ClaimsKey part passes key old new r
-claims_go_on part passes key old new a (Ok b) never c = record { pass = c.pass; trail = c.trail; claimed = c.claimed; full = c.full; refused = tt; own_number = c.own_number }
-claims_go_on part passes key old new a (Err (Stop stop)) never c = record { pass = c.pass; trail = c.trail; claimed = c.claimed; full = c.full; refused = tt; own_number = c.own_number }
+claims_go_on part passes key old new a (Ok b) never c = record { pass = c.pass; stays = c.stays; only = c.only; trail = c.trail; steps = c.steps; claimed = c.claimed; full = c.full; refused = tt; own_number = c.own_number }
+claims_go_on part passes key old new a (Err (Stop stop)) never c = record { pass = c.pass; stays = c.stays; only = c.only; trail = c.trail; steps = c.steps; claimed = c.claimed; full = c.full; refused = tt; own_number = c.own_number }
 claims_go_on part passes key old new a (Err (KeysFull capacity)) never c = absurd never
-
--- what follows from a stop
-pub stop_says : {A : Type 0} → (r : Result A MapStop) (P Q : AttemptStop → Type 0) → ((stop : AttemptStop) → P stop → Q stop) → IfStopped r P → IfStopped r Q
-stop_says (Ok a) P Q f h = tt
-stop_says (Err (Stop stop)) P Q f h = f stop h
-stop_says (Err (KeysFull capacity)) P Q f h = tt
-
--- what follows from an answer
-pub answer_says : {A : Type 0} → (r : Result A MapStop) (P Q : A → Type 0) → ((a : A) → P a → Q a) → IfOk r P → IfOk r Q
-answer_says (Ok a) P Q f h = f a h
-answer_says (Err e) P Q f h = tt
-
-pub ok_says : {A : Type 0} → (r : Result A MapStop) (P Q : Type 0) → (P → Q) → OnOk r P → OnOk r Q
-ok_says (Ok a) P Q f h = f h
-ok_says (Err e) P Q f h = tt
-
--- what follows from the stop of a call within
-pub err_says : (A B : Type 0) (e : MapStop) (P Q : AttemptStop → Type 0) → ((stop : AttemptStop) → P stop → Q stop) → IfStopped {A = A} (Err e) P → IfStopped {A = B} (Err e) Q
-err_says A B (Stop stop) P Q f h = f stop h
-err_says A B (KeysFull capacity) P Q f h = tt

@@ -1,4 +1,5 @@
-pub mod Claiming
-pub mod Looking
 pub mod Apart
+pub mod Claiming
+pub mod Steps
+pub mod Looking
 pub mod Committing

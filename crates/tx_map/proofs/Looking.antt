@@ -1,28 +1,29 @@
--- What a look at a key's cell says of the map.
-use Rattle.std.proofs.Common.{◌≡◌, ℕ, zero, suc, ◌+◌, ◌-◌, ◌<◌, ◌≤◌, List, get_or, Option, Some, None, Result, Ok, add-one, refl, sym, subst, ap, ◌∙◌, arith, inl, inr}
+-- What a look at a key's cell, and a write of it, say of the map and leave of the attempt.
+use Rattle.std.proofs.Common.{◌≡◌, ℕ, zero, suc, ◌+◌, ◌-◌, ◌^◌, ◌<◌, ◌≤◌, List, get_or, Option, Some, None, IfSome, IsErrAnd, Result, Ok, Err, add-one, refl, sym, subst, ap, ◌∙◌, arith, inl, inr}
 use Rattle.std.proofs.lemmas.Bool.Decides.{nat_tests}
-use mathlib.Core.Path.{fun_ext}
-use Rattle.serial_terms.specs.Counts.{with_at}
 use Rattle.std.specs.Option.{SomeIff}
-use Rattle.attempt_lists.specs.Cells.{word_at}
+use Rattle.attempt_lists.specs.Cells.{word_at, put}
 use Rattle.cell_table.specs.declared.view.View.{View}
 use Rattle.cell_table.specs.Pass.{PassState}
 use Rattle.tx_core.specs.Seen.{LooksOnly}
-use Rattle.tx_core.specs.declared.stop.Stop.{Stop}
+use Rattle.tx_core.specs.declared.stop.Stop.{Stop as AttemptStop}
 use Rattle.tx_core.specs.Tx.{Attempt, Observed}
 use Rattle.tx_map.specs.declared.part.MapPart.{MapPart}
 use Rattle.tx_map.specs.Map.{map_of, value_in}
-use Rattle.tx_map.specs.Calls.{MayObserve}
+use Rattle.tx_core.specs.Calls.{MayObserve, Stays}
+use Rattle.tx_map.specs.declared.part.MapStop.{MapStop}
+use Rattle.tx_map.specs.declared.part.MapStop.TheVariants.{Stop}
+use Rattle.tx_map.specs.Calls.{Writes, IsStopped, LooksThen, FillsBy}
 
-abbrev answer : ℕ → Result ℕ Stop
+abbrev answer : ℕ → Result ℕ AttemptStop
 answer x = Ok x
 
-module _ {M D : Type 0} (old new : Attempt M D) (cell x : ℕ) where
+module _ {M D : Type 0} (old new : Attempt M D) (cell : ℕ) where
   -- an answered read leaves the attempt as it was, or has observed the cell
-  pub read_observes : ((y : ℕ) → word_at old.writes cell ≡ Some y → (answer x ≡ answer y) × (new ≡ old))
+  pub read_observes : (x : ℕ) → ((y : ℕ) → word_at old.writes cell ≡ Some y → (answer x ≡ answer y) × (new ≡ old))
       → ((y : ℕ) → word_at old.writes cell ≡ None → word_at old.observations cell ≡ Some y → (answer x ≡ answer y) × (new ≡ old))
       → (word_at old.writes cell ≡ None → word_at old.observations cell ≡ None → Observed old new cell x) → MayObserve old new cell
-  read_observes own seen observes = written (word_at old.writes cell) refl
+  read_observes x own seen observes = written (word_at old.writes cell) refl
     where
       observed : word_at old.writes cell ≡ None → (o : Option ℕ) → word_at old.observations cell ≡ o → MayObserve old new cell
       observed none (Some y) e = inl (seen y none e).1
@@ -32,17 +33,44 @@ module _ {M D : Type 0} (old new : Attempt M D) (cell x : ℕ) where
       written (Some y) e = inl (own y e).1
       written None e = observed e (word_at old.observations cell) refl
 
--- it wrote nothing
-pub observes_writes : {M D : Type 0} (old new : Attempt M D) (cell : ℕ) → MayObserve old new cell → new.writes ≡ old.writes
-observes_writes old new cell (inl same) = ap (λ (a : Attempt _ _). a.writes) same
-observes_writes old new cell (inr seen) = ap (λ (a : Attempt _ _). a.writes) seen.3.is
+module _ {M D : Type 0} (old : Attempt M D) where
+  -- an attempt that is the old one but for its pass, its state, and what it observed and wrote
+  abbrev other : Attempt M D → Attempt M D
+  other a = record old { pass = a.pass; state = a.state; observations = a.observations; versions = a.versions; writes = a.writes }
 
--- the map has at the key's position what the cell says
-pub map_has : (part : MapPart) (cells : List ℕ) (position cell word : ℕ) → cell ≡ part.base + position → cell < part.base + part.capacity → get_or cells cell 0 ≡ word → map_of part cells position ≡ value_in word
-map_has part cells position cell word is low here =
-    let inside : position < part.capacity = omega (arith, is, low) in
-    let at : get_or cells (part.base + position) 0 ≡ word = ap (λ (c : ℕ). get_or cells c 0) (sym is) ∙ here in
-    grind (arith, nat_tests, inside, at)
+  stays_other : (new : Attempt M D) → new ≡ other new → Stays old new
+  stays_other new is = record {
+    table = ap (λ (a : Attempt M D). a.table) is;
+    version = ap (λ (a : Attempt M D). a.version) is;
+    notes = ap (λ (a : Attempt M D). a.notes) is;
+    additions = ap (λ (a : Attempt M D). a.additions) is;
+    spare = ap (λ (a : Attempt M D). a.spare) is;
+    committing = ap (λ (a : Attempt M D). a.committing) is;
+  }
+
+  pub stays_looked : (new : Attempt M D) (cell : ℕ) → MayObserve old new cell → Stays old new × (new.writes ≡ old.writes)
+  stays_looked new cell (inl same) = (stays_other new (same ∙ sym (ap other same)), ap (λ (a : Attempt M D). a.writes) same)
+  stays_looked new cell (inr seen) = (stays_other new (seen.3.is ∙ sym (ap other seen.3.is)), ap (λ (a : Attempt M D). a.writes) seen.3.is)
+
+  pub stays_stopped : (new : Attempt M D) → IsStopped old new → Stays old new × (new.writes ≡ old.writes)
+  stays_stopped new is = (stays_other new (is ∙ sym (ap other is)), ap (λ (a : Attempt M D). a.writes) is)
+
+  pub stays_written : (new : Attempt M D) (cell word : ℕ) → Writes cell word old new → Stays old new × (new.writes ≡ put old.writes cell word)
+  stays_written new cell word is = (stays_other new (is ∙ sym (ap other is)), ap (λ (a : Attempt M D). a.writes) is)
+
+pub stays_trans : {M D : Type 0} (a b d : Attempt M D) → Stays a b → Stays b d → Stays a d
+stays_trans a b d s t = record {
+  table = t.table ∙ s.table;
+  version = t.version ∙ s.version;
+  notes = t.notes ∙ s.notes;
+  additions = t.additions ∙ s.additions;
+  spare = t.spare ∙ s.spare;
+  committing = t.committing ∙ s.committing;
+}
+
+-- the map has at the position what its cell says
+pub map_has : (part : MapPart) (cells : List ℕ) (position word : ℕ) → position < part.capacity → get_or cells (part.base + position) 0 ≡ word → map_of part cells position ≡ value_in word
+map_has part cells position word inside here = grind (arith, nat_tests, inside, here)
 
 -- a word's value, where the word less 1 is there
 pub value_is : (word : ℕ) (r : Option ℕ) → SomeIff r (1 ≤ word) (word - 1) → r ≡ value_in word
@@ -51,25 +79,22 @@ value_is zero (Some v) e = absurd (omega (arith, e.0))
 value_is (suc w) None e = absurd (e (omega arith))
 value_is (suc w) (Some v) e = ap Some (omega (arith, e.1))
 
+pub value_below : (word : ℕ) (r : Option ℕ) → word < 2 ^ 64 → SomeIff r (1 ≤ word) (word - 1) → IfSome r (λ v. v < 2 ^ 64 - 1)
+value_below word None low e = tt
+value_below word (Some v) low e = omega (arith, low, e.0, e.1)
+
 -- the word of a value
 pub value_next : (value : ℕ) → value_in (value + 1) ≡ Some value
 value_next value = ap value_in (add-one value)
 
--- a map with the value that it has
-pub with_own : (m : ℕ → Option ℕ) (n : ℕ) → m ≡ with_at m n (m n)
-with_own m n = fun_ext (λ q. grind (arith, nat_tests))
+-- a pass that was looked with, and then got more places for locks
+pub looks_places : {M D : Type 0} (p q r : PassState M D) → LooksOnly p q → r ≡ record q { places = r.places } → LooksOnly p (record r { places = p.places })
+looks_places p q r looks same =
+    let view : r.view ≡ q.view = ap (λ (s : PassState _ _). s.view) same in
+    let narrow : PassState _ _ → PassState _ _ = λ s. record s { places = p.places } in
+    (ap narrow same ∙ ap narrow looks.0 ∙ ap (λ (v : View _ _). record p { view = v }) (sym view), rw view looks.1)
 
-module _ {M D : Type 0} (p q r : PassState M D) where
-  -- a pass that was looked with, and then got more places for locks
-  pub looks_places : LooksOnly p q → r ≡ record q { places = r.places } → LooksOnly p (record r { places = p.places })
-  looks_places looks same =
-      let view : r.view ≡ q.view = ap (λ (s : PassState M D). s.view) same in
-      let narrow : PassState M D → PassState M D = λ s. record s { places = p.places } in
-      (ap narrow same ∙ ap narrow looks.0 ∙ ap (λ (v : View M D). record p { view = v }) (sym view), rw view looks.1)
-
--- what an attempt that may have observed a cell has as before
-pub observes_same : {M D : Type 0} → (old new : Attempt M D) (cell : ℕ) → MayObserve old new cell → new ≡ record old { pass = new.pass; observations = new.observations; versions = new.versions }
-observes_same old new cell (inl same) = subst (λ (a : Attempt _ _). a ≡ record old { pass = a.pass; observations = a.observations; versions = a.versions }) (sym same) refl
-observes_same old new cell (inr seen) =
-    let is = seen.3.is in
-    is ∙ (λ i. record old { pass = new.pass; observations = sym (ap (λ (a : Attempt _ _). a.observations) is) i; versions = sym (ap (λ (a : Attempt _ _). a.versions) is) i })
+-- a stop within is the call's
+pub fills_stopped : {M D : Type 0} (cell word : ℕ) (old new : Attempt M D) (result : Result (Option ℕ) MapStop) (stop : AttemptStop) → IsErrAnd result (λ e. e ≡ Stop stop) → LooksThen cell IsStopped old new → FillsBy cell word old new result
+fills_stopped cell word old new (Ok there) stop is stopped = absurd is
+fills_stopped cell word old new (Err e) stop is stopped = subst (λ (z : MapStop). FillsBy cell word old new (Err z)) (sym is) stopped

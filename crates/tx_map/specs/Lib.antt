@@ -1,2 +1,4 @@
 pub mod Map
 pub mod Calls
+pub mod Steps
+pub mod Facts

@@ -1,9 +1,8 @@
-ghost use Rattle.std.specs.Prelude.{◌≡◌, ℕ, ◌-◌, ◌^◌, ◌<◌, false, []};
-ghost use Rattle.attempt_lists.specs.Parts.{waiting_of};
+ghost use Rattle.std.specs.Prelude.{◌≡◌, ◌-◌, ◌^◌, ◌<◌, []};
 ghost use Rattle.cell_table.specs.Steps.{IsIdle};
 ghost use Rattle.cell_table.specs.Pass.{IsPassOf};
-ghost use Rattle.tx_core.specs.declared.stop.TxState.TheVariants.{Running};
-ghost use Rattle.tx_map.specs.Calls.{MayCall};
+ghost use Rattle.tx_core.specs.Calls.{MayCall, NothingWaits};
+ghost use Rattle.tx_map.specs.Calls.{MayAsk};
 
 use crate::{MapPart, MapStop};
 use cell_table::{CellTable, Pass};
@@ -22,16 +21,17 @@ fn expect_get<K: KeyTest>(
     key: u64,
     value: Option<u64>,
 )
-    requires callable { MayCall part.now tx.old directory.now keys.old }
-    requires key { key < 2 ^ 64 - 1 }
-    requires passes { K.passes part.now.capacity key }
-    ensures callable { MayCall part.now tx.new directory.now keys.new }
-    ensures same { (tx.new.table ≡ tx.old.table) × (tx.new.writes ≡ tx.old.writes) × (tx.new.additions ≡ tx.old.additions) × (tx.new.pass.view.draws ≡ tx.old.pass.view.draws) }
+    requires callable { MayAsk part.now tx.old directory.now keys.old }
+    requires key { (key < 2 ^ 64 - 1) × K.passes part.now.capacity key }
+    requires waits { NothingWaits tx.old × (0 < tx.old.pass.view.draws) }
+    ensures callable { MayAsk part.now tx.new directory.now keys.new }
+    ensures waits { NothingWaits tx.new × (0 < tx.new.pass.view.draws) }
+    ensures same { (tx.new.table ≡ tx.old.table) × (tx.new.writes ≡ tx.old.writes) }
 {
-    let found = part
-        .get(tx, directory, keys, key)
-        .expect(rt, "the key is looked up");
-    assert_eq!(rt; found, value, "the value of {key}");
+    match part.get(tx, directory, keys, key) {
+        Ok(found) => assert_eq!(rt; found, value, "the value of {key}"),
+        Err(_) => panic!(rt; "the key is looked up"),
+    }
 }
 
 fn put<K: KeyTest>(
@@ -43,15 +43,18 @@ fn put<K: KeyTest>(
     key: u64,
     value: u64,
 )
-    requires callable { MayCall part.now tx.old directory.now keys.old }
-    requires key { key < 2 ^ 64 - 1 }
-    requires passes { K.passes part.now.capacity key }
+    requires callable { MayAsk part.now tx.old directory.now keys.old }
+    requires key { (key < 2 ^ 64 - 1) × K.passes part.now.capacity key }
     requires value { value < 2 ^ 64 - 1 }
-    ensures callable { MayCall part.now tx.new directory.now keys.new }
-    ensures same { (tx.new.table ≡ tx.old.table) × (tx.new.pass.view.draws ≡ tx.old.pass.view.draws) }
+    requires waits { NothingWaits tx.old × (0 < tx.old.pass.view.draws) }
+    ensures callable { MayAsk part.now tx.new directory.now keys.new }
+    ensures waits { NothingWaits tx.new × (0 < tx.new.pass.view.draws) }
+    ensures table { tx.new.table ≡ tx.old.table }
 {
-    part.put(tx, directory, keys, key, value)
-        .expect(rt, "the value is put");
+    match part.put(tx, directory, keys, key, value) {
+        Ok(()) => {}
+        Err(_) => panic!(rt; "the value is put"),
+    }
 }
 
 fn remove<K: KeyTest>(
@@ -62,13 +65,16 @@ fn remove<K: KeyTest>(
     keys: &mut KeyPass<K>,
     key: u64,
 )
-    requires callable { MayCall part.now tx.old directory.now keys.old }
-    requires key { key < 2 ^ 64 - 1 }
-    requires passes { K.passes part.now.capacity key }
-    ensures callable { MayCall part.now tx.new directory.now keys.new }
+    requires callable { MayAsk part.now tx.old directory.now keys.old }
+    requires key { (key < 2 ^ 64 - 1) × K.passes part.now.capacity key }
+    requires waits { NothingWaits tx.old × (0 < tx.old.pass.view.draws) }
+    ensures callable { MayAsk part.now tx.new directory.now keys.new }
+    ensures waits { NothingWaits tx.new × (0 < tx.new.pass.view.draws) }
 {
-    part.remove(tx, directory, keys, key)
-        .expect(rt, "the key is removed");
+    match part.remove(tx, directory, keys, key) {
+        Ok(()) => {}
+        Err(_) => panic!(rt; "the key is removed"),
+    }
 }
 
 // Expects that the map had this value for the key, or none.
@@ -82,16 +88,17 @@ fn expect_put_if_absent<K: KeyTest>(
     value: u64,
     there: Option<u64>,
 )
-    requires callable { MayCall part.now tx.old directory.now keys.old }
-    requires key { key < 2 ^ 64 - 1 }
-    requires passes { K.passes part.now.capacity key }
+    requires callable { MayAsk part.now tx.old directory.now keys.old }
+    requires key { (key < 2 ^ 64 - 1) × K.passes part.now.capacity key }
     requires value { value < 2 ^ 64 - 1 }
-    ensures callable { MayCall part.now tx.new directory.now keys.new }
+    requires waits { NothingWaits tx.old × (0 < tx.old.pass.view.draws) }
+    ensures callable { MayAsk part.now tx.new directory.now keys.new }
+    ensures waits { NothingWaits tx.new × (0 < tx.new.pass.view.draws) }
 {
-    let found = part
-        .put_if_absent(tx, directory, keys, key, value)
-        .expect(rt, "the value is put or there");
-    assert_eq!(rt; found, there, "the value of {key} before");
+    match part.put_if_absent(tx, directory, keys, key, value) {
+        Ok(found) => assert_eq!(rt; found, there, "the value of {key} before"),
+        Err(_) => panic!(rt; "the value is put or there"),
+    }
 }
 
 // An attempt of this pass.
@@ -103,8 +110,9 @@ fn begin<'a>(
     requires of { IsPassOf table.now pass }
     requires idle { IsIdle pass.view }
     ensures table { result.table ≡ table.now }
-    ensures fresh { (result.state ≡ Running) × (result.committing ≡ false) × (result.writes ≡ []) × ((part : ℕ) → waiting_of result.additions part ≡ []) }
-    ensures draw { 0 < result.pass.view.draws }
+    ensures callable { MayCall result }
+    ensures fresh { result.writes ≡ [] }
+    ensures waits { NothingWaits result × (0 < result.pass.view.draws) }
 {
     assert!(rt; pass.draws_left() > 0, "a draw is left");
     match Tx::begin(rt.alloc(), table, pass) {
@@ -115,13 +123,13 @@ fn begin<'a>(
 
 // Commits an attempt that writes, and expects this place.
 fn commit(rt: &impl Abort, mut tx: Tx<'_, Untold>, place: u64) -> Pass<Untold>
-    requires running { tx.state ≡ Running }
-    requires first { tx.committing ≡ false }
-    requires draw { 0 < tx.pass.view.draws }
+    requires callable { MayCall tx }
+    requires waits { NothingWaits tx × (0 < tx.pass.view.draws) }
     ensures of { IsPassOf tx.entry.table result }
     ensures idle { IsIdle result.view }
 {
     assert!(rt; tx.is_writing(), "a cell is written");
+    tx.vouched_law();
     let Ok(()) = tx.lock_writes() else {
         panic!(rt; "the cells are locked");
     };
@@ -134,13 +142,13 @@ fn commit(rt: &impl Abort, mut tx: Tx<'_, Untold>, place: u64) -> Pass<Untold>
 
 // Expects that the commit of an attempt is refused so, after its locks were taken.
 fn expect_refusal(rt: &impl Abort, mut tx: Tx<'_, Untold>, stop: Stop) -> Pass<Untold>
-    requires running { tx.state ≡ Running }
-    requires first { tx.committing ≡ false }
+    requires callable { MayCall tx }
     requires draw { 0 < tx.pass.view.draws }
     ensures of { IsPassOf tx.entry.table result }
     ensures idle { IsIdle result.view }
 {
     assert!(rt; tx.is_writing(), "a cell is written");
+    tx.vouched_law();
     let Ok(()) = tx.lock_writes() else {
         panic!(rt; "the cells are locked");
     };
@@ -151,10 +159,9 @@ fn expect_refusal(rt: &impl Abort, mut tx: Tx<'_, Untold>, stop: Stop) -> Pass<U
 
 // Commits an attempt that writes nothing, and expects this place.
 fn commit_reads(rt: &impl Abort, tx: Tx<'_, Untold>, place: u64) -> Pass<Untold>
-    requires running { tx.state ≡ Running }
-    requires first { tx.committing ≡ false }
+    requires callable { MayCall tx }
+    requires waits { NothingWaits tx }
     requires no_write { tx.writes ≡ [] }
-    requires no_addition { (part : ℕ) → waiting_of tx.additions part ≡ [] }
     ensures of { IsPassOf tx.entry.table result }
     ensures idle { IsIdle result.view }
 {
@@ -231,9 +238,7 @@ fn an_attempt_sees_its_own_calls(rt: HostRuntime) -> Result<(), Fail> {
     };
     let (table, pass) = CellTable::open(rt.alloc(), Untold, &[7, 0, 0, 7], 1)?;
     let (directory, mut keys) = Directory::<EveryKey>::open(rt.alloc(), &[2], 1)?;
-    let Ok(mut tx) = Tx::begin(rt.alloc(), &table, pass) else {
-        panic!(rt; "the attempt begins");
-    };
+    let mut tx = begin(&rt, &table, pass);
     expect_get(&rt, &part, &mut tx, &directory, &mut keys, 5, None);
     expect_put_if_absent(&rt, &part, &mut tx, &directory, &mut keys, 3, 30, None);
     expect_put_if_absent(&rt, &part, &mut tx, &directory, &mut keys, 3, 31, Some(30));
@@ -256,9 +261,7 @@ fn a_map_without_cells_has_no_keys(rt: HostRuntime) -> Result<(), Fail> {
     };
     let (table, pass) = CellTable::open(rt.alloc(), Untold, &[0], 1)?;
     let (directory, mut keys) = Directory::<EveryKey>::open(rt.alloc(), &[4, 0], 1)?;
-    let Ok(mut tx) = Tx::begin(rt.alloc(), &table, pass) else {
-        panic!(rt; "the attempt begins");
-    };
+    let mut tx = begin(&rt, &table, pass);
     let full = part.get(&mut tx, &directory, &mut keys, 7);
     assert_eq!(rt; full, Err(MapStop::KeysFull { capacity: 0 }));
     let _ = tx.abort();
@@ -274,9 +277,7 @@ fn keys_below_the_capacity_have_their_own_cells(rt: HostRuntime) -> Result<(), F
     };
     let (table, pass) = CellTable::open(rt.alloc(), Untold, &[0, 0, 0, 9], 1)?;
     let (directory, mut keys) = Directory::<BelowCapacity>::open(rt.alloc(), &[3], 1)?;
-    let Ok(mut tx) = Tx::begin(rt.alloc(), &table, pass) else {
-        panic!(rt; "the attempt begins");
-    };
+    let mut tx = begin(&rt, &table, pass);
     expect_get(&rt, &part, &mut tx, &directory, &mut keys, 2, Some(8));
     expect_get(&rt, &part, &mut tx, &directory, &mut keys, 0, None);
     let _ = tx.abort();
