@@ -1,0 +1,9 @@
+pub mod Lists
+pub mod Sums
+pub mod Parts
+pub mod Spots
+pub mod Words
+pub mod Frames
+pub mod Opened
+pub mod Plans
+pub mod Worked
