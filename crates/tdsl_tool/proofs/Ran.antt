@@ -1,15 +1,14 @@
 -- What holds of a run, from how it ended.
-use Rattle.std.proofs.Common.{◌≡◌, ◌≢◌, ◌⊎◌, inl, inr, ℕ, ◌<◌, ◌≤◌, List, length, Some, None, refl, sym, ◌∙◌, ap, subst, arith}
+use Rattle.std.proofs.Common.{◌≡◌, ◌≢◌, ◌⊎◌, inl, inr, ℕ, ◌<◌, List, length, Some, refl, sym, ◌∙◌, ap, subst, arith}
 use Rattle.std.proofs.lemmas.Bool.{cases_lt}
-use Rattle.byte_ends.specs.Told.{Rose, Grows, GrowsByPrefix}
 use Rattle.capture_terms.specs.Capture.{Answer, IsAnswer}
 use Rattle.rule_terms.specs.Rule.{Rule}
 use Rattle.rule_terms.specs.RuleText as rule_text
-use Rattle.command_words.specs.Words.{Names, Asked, inspect, asked_by}
+use Rattle.command_words.specs.Words.{Names, inspect, asked_by}
 use Rattle.command_words.specs.declared.command.Settings.{Settings}
 use Rattle.report.specs.Fault.{Cause, no_command, unread, unwritten, bad_line, bad_capture, long_file, many_frames, many_rules, many_findings, no_memory, status_of}
-use Rattle.tdsl_tool.specs.Verdict.{max_file, Verdict, reports, stops, RuleFile, rules_are, rules_refused, rule_file_of, HasBadLine, HasManyRules, IsRuleFile, RuleFileIsOne, CaptureFile, file_of, IsCaptureFile, IsVerdict, VerdictIsOne, verdict_status, verdict_of}
-use Rattle.tdsl_tool.specs.Run.{Reading, Writing, HasFailed, IsFaulty, Run, reading, EndsBy, Exactly, HasStatus, Decides, Inspected, Ran, IsOfRules, IfRulesTold, ComesTo, StopsAtRules, StopsAtCapture, StopsAt, IsReported, IsCutOff, Ending, finished, faulted, ending_status, EndsSo, Tells, TellsLine}
+use Rattle.tdsl_tool.specs.Verdict.{max_file, reports, stops, RuleFile, rules_are, rules_refused, HasBadLine, HasManyRules, IsRuleFile, RuleFileIsOne, CaptureFile, IsCaptureFile, VerdictIsOne, verdict_status}
+use Rattle.tdsl_tool.specs.Run.{Reading, Writing, HasFailed, IsFaulty, Run, reading, EndsBy, Exactly, HasStatus, Decides, Inspected, Ran, IsOfRules, IfRulesTold, StopsAtRules, StopsAtCapture, StopsAt, IsReported, IsCutOff, Ending, finished, faulted, ending_status, EndsSo, Tells}
 
 abbrev pub SomeAnswer : Type 0
 SomeAnswer = (bytes : List ℕ) → (answer : Answer) × IsAnswer bytes answer

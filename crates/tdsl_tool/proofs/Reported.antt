@@ -1,5 +1,5 @@
 -- What a report says, and where there is none for too many findings.
-use Rattle.std.proofs.Common.{◌≡◌, ◌⊎◌, inr, ℕ, ◌<◌, ◌≤◌, List, length, refl, sym, ◌∙◌, ap, arith}
+use Rattle.std.proofs.Common.{◌≡◌, inr, ℕ, ◌<◌, ◌≤◌, List, length, refl, sym, ◌∙◌, ap, arith}
 use Rattle.std.specs.Prelude.{true, false, Bool, nat_lt, if◌then◌else◌}
 use Rattle.std.proofs.lemmas.Bool.Decides.{nat_tests}
 use Rattle.capture_terms.specs.Capture.{Contents, contents_of, captured, IsCapture}
@@ -17,7 +17,7 @@ use Rattle.report.specs.Report.{text_of, report_lines}
 use Rattle.inspection_terms.specs.Findings.{all_findings, findings_of_capture}
 use Rattle.tdsl_tool.specs.Inspection.{report_of}
 use Rattle.report.specs.Fault.{many_findings}
-use Rattle.tdsl_tool.specs.Verdict.{max_file, Verdict, verdict_under, stops, reports, file_of, IsVerdictUnder}
+use Rattle.tdsl_tool.specs.Verdict.{max_file, verdict_under, stops, reports, file_of, IsVerdictUnder}
 
 -- the verdict of a count of findings
 under_few : (settings : Settings) (rules : List Rule) (bytes : List ℕ) (contents : Contents) → length (findings_of_capture rules bytes settings.window contents) ≤ settings.findings → reports (report_of rules bytes settings.window contents) ≡ verdict_under settings rules bytes contents

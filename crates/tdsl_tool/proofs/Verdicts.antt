@@ -1,13 +1,13 @@
 -- What the parts of a run find, put together.
-use Rattle.std.proofs.Common.{◌≡◌, ◌⊎◌, inl, inr, ℕ, ◌<◌, ◌≤◌, List, length, Option, Some, refl, sym, subst, arith}
+use Rattle.std.proofs.Common.{◌≡◌, inl, inr, ℕ, ◌≤◌, List, length, Option, Some, refl, sym, subst}
 use Rattle.std.specs.Prelude.{IfSome}
-use Rattle.byte_ends.specs.Told.{Rose, IfTold}
-use Rattle.capture_terms.specs.Capture.{Answer, captured, IsAnswer}
+use Rattle.byte_ends.specs.Told.{IfTold}
+use Rattle.capture_terms.specs.Capture.{Answer, IsAnswer}
 use Rattle.rule_terms.specs.Rule.{Rule}
 use Rattle.rule_terms.specs.RuleText as rule_text
 use Rattle.report.specs.Fault.{Cause, no_command, unread, unwritten, bad_line, bad_capture, long_file, many_frames, many_rules, many_findings, no_memory}
 use Rattle.command_words.specs.declared.command.Settings.{Settings}
-use Rattle.tdsl_tool.specs.Verdict.{max_file, Verdict, stops, IsVerdictUnder, rules_are, AreRules, CaptureFile, capture_is, capture_refused, file_of}
+use Rattle.tdsl_tool.specs.Verdict.{max_file, Verdict, stops, IsVerdictUnder, rules_are, AreRules, capture_refused, file_of}
 use Rattle.tdsl_tool.specs.Run.{Source, HasFailed, Reading, IfRulesTold, ComesTo, StopsReading, StopsAtRules, StopsAtCapture, StopsUnder}
 
 -- a capture file whose answer is a refusal comes to it

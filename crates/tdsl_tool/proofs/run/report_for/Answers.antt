@@ -1,4 +1,4 @@
-use Rattle.std.proofs.Common.{refl, ◌∙◌, inl, inr, arith}
+use Rattle.std.proofs.Common.{refl, ◌∙◌, inr, arith}
 use Rattle.std.proofs.lemmas.Result.{IfOk-weaker, IfErr-weaker}
 use Rattle.command_words.specs.Words.{names_of}
 use Rattle.report.specs.Fault.{cause_of}
