@@ -1,5 +1,5 @@
 -- What changes in the cells of one structure changes that structure alone.
-use Rattle.std.proofs.Common.{◌≡◌, ◌≢◌, ℕ, ◌+◌, ◌-◌, ◌^◌, ◌<◌, ◌≤◌, List, length, take, drop, min, get_or, ap, sym, ◌∙◌, refl, inl, inr, subst, arith}
+use Rattle.std.proofs.Common.{◌≡◌, ◌≢◌, ℕ, ◌+◌, ◌^◌, ◌<◌, List, length, drop, get_or, ap, sym, ◌∙◌, inl, inr, subst, arith}
 use Rattle.std.specs.List.{All}
 use Rattle.std.proofs.lemmas.Bool.{cases_eq}
 use Rattle.std.proofs.lemmas.List.{length-take, length-drop, ext_get_or}
@@ -8,8 +8,8 @@ use mathlib.Core.Path.{fun_ext}
 use native.Mathlib.Decide.{ℕ_discrete}
 use Rattle.serial_terms.specs.Counts.{with_at}
 use Rattle.serial_terms.specs.Facts.{with_at_same, with_at_other}
-use Rattle.serial_terms.specs.Serial.{State, Sequence, Pool, pool_of}
-use Rattle.store_layout.specs.Shapes.{Shape, Object, the_map, the_queue, the_pool, the_log, the_cell, cells_of, first_of, size_of, IsCellOf}
+use Rattle.serial_terms.specs.Serial.{State, Sequence, pool_of}
+use Rattle.store_layout.specs.Shapes.{Shape, Object, the_map, the_queue, the_pool, the_log, the_cell, first_of, size_of}
 use Rattle.store_layout.specs.States.{value_in, items_in, queue_in, log_in, AreOf, words_of, state_in, IsFormed, DifferOnlyIn, with_object}
 use Rattle.store_layout.specs.Laws.{ChangesStayInPart}
 use Rattle.store_layout.proofs.Parts.{parts_are_apart}

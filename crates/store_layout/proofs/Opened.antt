@@ -1,5 +1,5 @@
 -- The words of the opening stand for the opening state.
-use Rattle.std.proofs.Common.{◌≡◌, ℕ, zero, suc, ◌+◌, ◌-◌, ◌/◌, ◌%◌, ◌^◌, ◌<◌, ◌≤◌, List, [], ◌∷◌, ◌++◌, length, take, drop, map, replicate, get_or, cond, ltb, ap, sym, ◌∙◌, refl, inl, inr, subst, arith}
+use Rattle.std.proofs.Common.{◌≡◌, ℕ, zero, suc, ◌+◌, ◌-◌, ◌/◌, ◌%◌, ◌^◌, ◌<◌, ◌≤◌, List, [], ◌∷◌, ◌++◌, length, take, drop, map, replicate, get_or, ltb, ap, sym, ◌∙◌, refl, inl, inr, subst, arith}
 use Rattle.std.specs.List.{All, sum, sum_by, flat_map}
 use Rattle.std.proofs.lemmas.Bool.{cases_lt, cond-true, cond-false, lt-ltb, le-ltb}
 use Rattle.std.proofs.lemmas.List.{get_or_past, get_or_append_left, get_or-append_right, get_or-replicate, length-replicate, length-map, length-append, append_assoc, take_at, take_all}
@@ -7,17 +7,16 @@ use Rattle.std.proofs.Math.Seq.{drop-append-add}
 use Rattle.std.proofs.lemmas.List.Elements.{All-get_or, All-from_get_or, All-append, All-replicate, All-map, All-weaker, All-head, All-tail, All-nil}
 use Rattle.std.proofs.lemmas.List.Concat.{flat_map-cons}
 use Rattle.std.proofs.lemmas.List.Sums.{sum_by-cons}
-use mathlib.Core.Path.{fun_ext}
 use Rattle.serial_terms.specs.declared.store.Layout.{Layout}
 use Rattle.serial_terms.specs.declared.store.PoolLayout.{PoolLayout}
 use Rattle.serial_terms.specs.Ranges.{IsKept}
-use Rattle.serial_terms.specs.Serial.{State, Sequence, Pool, pool_of}
+use Rattle.serial_terms.specs.Serial.{pool_of}
 use Rattle.serial_terms.specs.Stores.{slots_of, items_of, opening_of}
-use Rattle.store_layout.specs.Shapes.{Shape, Object, the_map, the_queue, the_pool, the_log, the_cell, shape_of, with_end, pools_from, logs_from, cells_of, first_of, size_of, IsCellOf, IsPool, IsLayout}
-use Rattle.store_layout.specs.States.{value_in, items_in, round_from, head_in, length_in, queue_in, log_in, IsQueue, IsLog, AreOf, words_of, state_in, IsFormed}
+use Rattle.store_layout.specs.Shapes.{Object, the_map, the_queue, the_pool, the_log, the_cell, shape_of, with_end, pools_from, logs_from, cells_of, first_of, size_of, IsCellOf, IsPool, IsLayout}
+use Rattle.store_layout.specs.States.{value_in, items_in, round_from, queue_in, log_in, IsQueue, IsLog, AreOf, words_of, state_in, IsFormed}
 use Rattle.store_layout.specs.Opening.{opening_slots, opening_words}
 use Rattle.store_layout.specs.Laws.{OpeningStands}
-use Rattle.store_layout.proofs.Parts.{in_map, in_queue, in_pool, in_log, in_cell}
+use Rattle.store_layout.proofs.Parts.{in_map, in_queue, in_log, in_cell}
 use Rattle.store_layout.proofs.Words.{words_are_cells, short}
 
 -- ---- one pool

@@ -2,9 +2,8 @@
 use Rattle.std.proofs.Common.{◌≡◌, ℕ, ◌+◌, ◌-◌, ◌<◌, ◌≤◌, List, length, take, get_or, cond, ltb, inl, inr, ap, arith}
 use Rattle.std.specs.List.{sum, sum_by}
 use Rattle.std.proofs.lemmas.Bool.{cases_lt, cond-true, cond-false, lt-ltb, le-ltb}
-use Rattle.std.proofs.lemmas.Bool.Decides.{nat_tests}
 use Rattle.std.proofs.lemmas.List.{get_or_past}
-use Rattle.store_layout.specs.Shapes.{Shape, Object, the_map, the_queue, the_pool, the_log, the_cell, with_end, queues_from, pools_from, logs_from, plain_from, cells_of, first_of, size_of, IsCellOf}
+use Rattle.store_layout.specs.Shapes.{Shape, Object, the_map, the_queue, the_pool, the_log, the_cell, with_end, queues_from, pools_from, logs_from, plain_from, cells_of, IsCellOf}
 use Rattle.store_layout.specs.Laws.{PartsAreApart}
 use Rattle.store_layout.proofs.Sums.{IsIn, is_in, in_one, some_part}
 

@@ -1,13 +1,13 @@
 -- The places of a plan, and the cells that none of them has.
-use Rattle.std.proofs.Common.{◌≡◌, ℕ, ◌+◌, ◌^◌, ◌<◌, ◌≤◌, List, length, take, get_or, arith, subst, sym, ap, refl, add-zero}
+use Rattle.std.proofs.Common.{◌≡◌, ℕ, ◌+◌, ◌^◌, ◌<◌, ◌≤◌, List, length, get_or, arith, subst, sym, ap, refl, add-zero}
 use Rattle.std.specs.List.{sum, sum_by}
 use Rattle.std.proofs.lemmas.List.{length-map}
 use mathlib.Core.Path.{fun_ext}
 use Rattle.serial_terms.specs.declared.store.Layout.{Layout}
 use Rattle.serial_terms.specs.Stores.{slots_of}
 use Rattle.store_layout.specs.declared.place.Place.{Place}
-use Rattle.store_layout.specs.Shapes.{Shape, Object, the_map, the_queue, the_pool, the_log, the_cell, with_end, shape_of, queues_from, pools_from, logs_from, plain_from, cells_of, IsCellOf, IsLayout, most_cells}
-use Rattle.store_layout.specs.Plans.{firsts_in, capacities_in, StandFrom, shape_by, IsPlan, IsAt}
+use Rattle.store_layout.specs.Shapes.{Object, the_map, the_queue, the_pool, the_log, the_cell, with_end, shape_of, queues_from, pools_from, logs_from, plain_from, cells_of, IsCellOf, IsLayout, most_cells}
+use Rattle.store_layout.specs.Plans.{capacities_in, StandFrom, shape_by, IsPlan, IsAt}
 use Rattle.store_layout.proofs.Lists.{ends-sum, length-sum, slots-count}
 use Rattle.store_layout.proofs.Sums.{IsIn}
 use Rattle.store_layout.proofs.Parts.{in_map, in_queue, in_pool, in_log, in_cell, parts_are_apart}

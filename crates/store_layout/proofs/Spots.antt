@@ -1,5 +1,5 @@
 -- Spots and the cells that they have.
-use Rattle.std.proofs.Common.{◌≡◌, ℕ, zero, suc, ◌+◌, ◌-◌, ◌^◌, ◌<◌, ◌≤◌, ap, sym, ◌∙◌, refl, inl, inr, arith}
+use Rattle.std.proofs.Common.{◌≡◌, ℕ, zero, suc, ◌-◌, ◌^◌, ◌<◌, ◌≤◌, ap, sym, ◌∙◌, refl, arith}
 use Rattle.std.proofs.lemmas.Bool.Decides.{nat_tests}
 use Rattle.store_layout.specs.declared.spot.Spot.{Spot}
 use Rattle.store_layout.specs.declared.spot.Spot.TheVariants.{MapKey, QueueEnd, QueueItem, PoolSlot, LogEnd, LogEntry, Plain}

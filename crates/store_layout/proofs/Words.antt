@@ -1,11 +1,10 @@
 -- The words of structures, and what they stand for.
-use Rattle.std.proofs.Common.{◌≡◌, ℕ, zero, suc, ◌+◌, ◌-◌, ◌/◌, ◌%◌, ◌^◌, ◌<◌, ◌≤◌, List, [], ◌∷◌, length, take, drop, map, get_or, cond, ltb, ◌⊎◌, ◌∙◌, refl, inl, inr, arith}
+use Rattle.std.proofs.Common.{◌≡◌, ℕ, zero, suc, ◌+◌, ◌-◌, ◌/◌, ◌%◌, ◌^◌, ◌<◌, ◌≤◌, List, [], ◌∷◌, length, take, drop, get_or, cond, ltb, ◌⊎◌, ◌∙◌, refl, inl, inr, arith}
 use Rattle.std.proofs.lemmas.Bool.{cases_lt}
 use Rattle.std.proofs.lemmas.Bool.Decides.{nat_tests}
-use Rattle.std.proofs.lemmas.List.{get_or-take, get_or-drop, get_or_past, length-take, length-take-le, length-drop, length-map, ext_get_or}
-use Rattle.serial_terms.specs.Serial.{IsWithinCapacity}
-use Rattle.store_layout.specs.Shapes.{Shape, Object, the_map, the_queue, the_pool, the_log, the_cell, cells_of, first_of, size_of, IsCellOf}
-use Rattle.store_layout.specs.States.{round_from, queue_in, log_in, IsQueue, IsLog, AreOf, words_of, state_in, IsFormed}
+use Rattle.std.proofs.lemmas.List.{get_or-take, get_or-drop, length-take, length-take-le, length-drop, length-map}
+use Rattle.store_layout.specs.Shapes.{Shape, Object, the_queue, the_log, cells_of, first_of, size_of}
+use Rattle.store_layout.specs.States.{round_from, queue_in, log_in, IsQueue, IsLog, words_of, state_in}
 use Rattle.store_layout.specs.Laws.{WordsAreCells, FormedIsWithinCapacity}
 use Rattle.store_layout.proofs.Parts.{parts_are_apart}
 

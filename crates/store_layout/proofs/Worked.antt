@@ -1,6 +1,5 @@
 -- Worked cells and what they stand for, and words that stand for nothing.
-use Rattle.std.proofs.Common.{◌≡◌, ℕ, ◌<◌, List, refl, arith}
-use Rattle.std.proofs.lemmas.List.Elements.{All-get_or}
+use Rattle.std.proofs.Common.{refl, arith}
 use Rattle.store_layout.specs.States.{state_in}
 use Rattle.store_layout.specs.Worked.{WorkedState, WrongWords}
 

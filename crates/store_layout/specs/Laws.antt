@@ -1,5 +1,5 @@
 -- What is true of every layout.
-use Rattle.std.specs.Prelude.{◌≡◌, ◌≢◌, ℕ, ◌+◌, ◌^◌, ◌<◌, ◌≤◌, List, length, All, slice_index}
+use Rattle.std.specs.Prelude.{◌≡◌, ◌≢◌, ℕ, ◌+◌, ◌^◌, ◌<◌, List, length, All, slice_index}
 use Rattle.serial_terms.specs.declared.store.Layout.{Layout}
 use Rattle.serial_terms.specs.Serial.{IsWithinCapacity}
 use Rattle.serial_terms.specs.Stores.{opening_of}

@@ -1,5 +1,5 @@
 -- The places of structures as a plan of cells keeps them.
-use Rattle.std.specs.Prelude.{◌≡◌, ℕ, ◌+◌, ◌^◌, ◌<◌, ◌≤◌, List, length, take, map, sum_by, slice_index, Option, Some, None, Result, Ok, Err}
+use Rattle.std.specs.Prelude.{◌≡◌, ℕ, ◌+◌, ◌^◌, ◌<◌, ◌≤◌, List, length, take, map, sum_by, slice_index, Result, Ok, Err}
 use Rattle.store_layout.specs.declared.place.Place.{Place}
 use Rattle.store_layout.specs.declared.place.LayoutEnd.{LayoutEnd}
 use Rattle.store_layout.specs.declared.place.LayoutEnd.TheVariants.{TooLarge, Memory}

@@ -1,5 +1,5 @@
 //! The words that a store opens with.
-ghost use Rattle.std.specs.Prelude.{◌≡◌, suc, ◌+◌, ◌^◌, ◌<◌, ◌≤◌, ◌++◌, map, vec_len, All, IfOk, OnOk};
+ghost use Rattle.std.specs.Prelude.{◌≡◌, suc, ◌≤◌, ◌++◌, map, All, IfOk, OnOk};
 ghost use Rattle.std.specs.List.{flat_map};
 ghost use Rattle.serial_terms.specs.Ranges.{IsKept};
 ghost use Rattle.store_layout.specs.Shapes.{shape_of, cells_of, IsLayout, IsPool, most_cells};

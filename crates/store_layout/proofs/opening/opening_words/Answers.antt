@@ -1,4 +1,4 @@
-use Rattle.std.proofs.Common.{arith, ap, refl, ◌∙◌, ◌+◌, ◌++◌, vec_len}
+use Rattle.std.proofs.Common.{arith, ap, ◌∙◌, ◌+◌, ◌++◌, vec_len}
 use Rattle.std.specs.List.{sum, sum_by, flat_map}
 use Rattle.store_layout.specs.Shapes.{with_end}
 use Rattle.store_layout.specs.Opening.{opening_slots}

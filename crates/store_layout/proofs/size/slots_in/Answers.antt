@@ -1,6 +1,5 @@
-use Rattle.std.proofs.Common.{arith, length}
+use Rattle.std.proofs.Common.{arith}
 use Rattle.std.proofs.lemmas.List.{take_all}
-use Rattle.serial_terms.specs.declared.store.PoolLayout.{PoolLayout}
 use Rattle.store_layout.proofs.Lists.{slots-sum}
 use Rattle.store_layout.proofs.size.slots_in.Goals as goal
 

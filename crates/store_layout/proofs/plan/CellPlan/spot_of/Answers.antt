@@ -1,6 +1,6 @@
 use Rattle.std.proofs.Common.{arith, ap, ℕ, ◌-◌, ◌<◌, ◌≤◌, ltb}
 use Rattle.std.proofs.lemmas.Bool.{cond-true, lt-ltb}
-use Rattle.store_layout.specs.Shapes.{Shape, cells_of, plain_from}
+use Rattle.store_layout.specs.Shapes.{Shape, plain_from}
 use Rattle.store_layout.proofs.Plans.{is_plain}
 use Rattle.store_layout.proofs.plan.CellPlan.spot_of.Goals as goal
 
