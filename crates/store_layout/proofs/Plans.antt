@@ -7,7 +7,7 @@ use Rattle.serial_terms.specs.declared.store.Layout.{Layout}
 use Rattle.serial_terms.specs.Stores.{slots_of}
 use Rattle.store_layout.specs.declared.place.Place.{Place}
 use Rattle.store_layout.specs.Shapes.{Object, the_map, the_queue, the_pool, the_log, the_cell, with_end, shape_of, queues_from, pools_from, logs_from, plain_from, cells_of, IsCellOf, IsLayout, most_cells}
-use Rattle.store_layout.specs.Plans.{capacities_in, StandFrom, shape_by, IsPlan, IsAt}
+use Rattle.store_layout.specs.Plans.{capacities_in, StandFrom, shape_by, IsPlan, IsAtNone}
 use Rattle.store_layout.proofs.Lists.{ends-sum, length-sum, slots-count}
 use Rattle.store_layout.proofs.Sums.{IsIn}
 use Rattle.store_layout.proofs.Parts.{in_map, in_queue, in_pool, in_log, in_cell, parts_are_apart}
@@ -16,11 +16,7 @@ use Rattle.store_layout.proofs.Parts.{in_map, in_queue, in_pool, in_log, in_cell
 pub stand_whole : (from : ℕ) (sizes : List ℕ) (places : List Place) → StandFrom (λ c. c + 0) from sizes places → StandFrom (λ c. c) from sizes places
 stand_whole from sizes places = subst (λ (f : ℕ → ℕ). StandFrom f from sizes places) (fun_ext (λ c. add-zero c))
 
--- none of the places has the cell
-abbrev pub IsAtNone : List Place → ℕ → ℕ → Type 0
-IsAtNone places more cell = (i : ℕ) → i < length places → IsAt places more i cell → ⊥
-
--- so it is in none of the parts
+-- a cell that none of the places has is in none of the parts
 in_no_part : (f : ℕ → ℕ) (from more : ℕ) (places : List Place) (i cell : ℕ) → f (get_or (capacities_in places) i 0) ≡ get_or (capacities_in places) i 0 + more → StandFrom f from (capacities_in places) places → IsAtNone places more cell → IsIn f from (capacities_in places) i cell → ⊥
 in_no_part f from more places i cell e stand none at = none i (omega (arith, at.there, length-map places (λ (p : Place). p.capacity)))
     (omega (arith, stand.firsts i at.there, at.low), omega (arith, stand.firsts i at.there, at.high))

@@ -24,12 +24,14 @@ pub record PartsAreApart : Type 0 where
 -- the words of a structure are those of its cells
 pub record WordsAreCells : Type 0 where
   pub sized : (s : Shape) (o : Object) (cells : List ℕ) → length cells ≡ cells_of s → length (words_of s o cells) ≡ size_of s o
-  pub words : (s : Shape) (o : Object) (cells : List ℕ) (i : ℕ) → i < size_of s o → slice_index (words_of s o cells) i ≡ slice_index cells (first_of s o + i)
+  pub words : (s : Shape) (o : Object) (cells : List ℕ) (i : ℕ) → i < size_of s o
+      → slice_index (words_of s o cells) i ≡ slice_index cells (first_of s o + i)
 
 -- what changes in the cells of one structure changes that structure alone
 pub record ChangesStayInPart : Type 0 where
   pub words : (s : Shape) (o p : Object) (before after : List ℕ) → DifferOnlyIn s o before after → p ≢ o → words_of s p after ≡ words_of s p before
-  pub state : (s : Shape) (o : Object) (before after : List ℕ) → DifferOnlyIn s o before after → state_in s after ≡ with_object (state_in s before) o (state_in s after)
+  pub state : (s : Shape) (o : Object) (before after : List ℕ) → DifferOnlyIn s o before after
+      → state_in s after ≡ with_object (state_in s before) o (state_in s after)
   pub formed : (s : Shape) (o : Object) (before after : List ℕ) → DifferOnlyIn s o before after → IsFormed s before
       → All (λ w. w < 2 ^ 64) after → AreOf o (words_of s o after) → IsFormed s after
 

@@ -11,4 +11,5 @@ opening_slots p = map (λ v. suc v) p.items ++ replicate (p.slots - length p.ite
 
 -- every other cell is 0
 abbrev pub opening_words : Layout → List ℕ
-opening_words layout = replicate (pools_from (shape_of layout)) 0 ++ (flat_map opening_slots layout.pools ++ replicate (sum_by with_end layout.logs + layout.cells) 0)
+opening_words layout = replicate (pools_from (shape_of layout)) 0
+    ++ (flat_map opening_slots layout.pools ++ replicate (sum_by with_end layout.logs + layout.cells) 0)

@@ -17,7 +17,13 @@ pub record StandFrom (f : ℕ → ℕ) (from : ℕ) (sizes : List ℕ) (places :
   pub firsts : (i : ℕ) → i < length sizes → slice_index (firsts_in places) i ≡ from + sum_by f (take i sizes)
 
 abbrev pub shape_by : List Place → List Place → List Place → List Place → Place → Shape
-shape_by maps queues pools logs plain = record { maps = capacities_in maps; queues = capacities_in queues; pools = capacities_in pools; logs = capacities_in logs; cells = plain.capacity }
+shape_by maps queues pools logs plain = record {
+  maps = capacities_in maps;
+  queues = capacities_in queues;
+  pools = capacities_in pools;
+  logs = capacities_in logs;
+  cells = plain.capacity;
+}
 
 -- These are the places of all structures of their shape
 pub record IsPlan (maps queues pools logs : List Place) (plain : Place) : Type 0 where
@@ -31,7 +37,17 @@ pub record IsPlan (maps queues pools logs : List Place) (plain : Place) : Type 0
 
 -- the cell is one of the place i, which has so many cells more than values
 abbrev pub IsAt : List Place → ℕ → ℕ → ℕ → Type 0
-IsAt places more i cell = (slice_index (firsts_in places) i ≤ cell) × (cell < slice_index (firsts_in places) i + (slice_index (capacities_in places) i + more))
+IsAt places more i cell = (slice_index (firsts_in places) i ≤ cell)
+    × (cell < slice_index (firsts_in places) i + (slice_index (capacities_in places) i + more))
+
+-- none of the places has the cell
+abbrev pub IsAtNone : List Place → ℕ → ℕ → Type 0
+IsAtNone places more cell = (i : ℕ) → i < length places → IsAt places more i cell → ⊥
+
+-- the number of the place that has it, and which of its cells it is
+abbrev pub IsFound : List Place → ℕ → ℕ → ℕ × ℕ → Type 0
+IsFound places more cell found = (found.0 < length places) × IsAt places more found.0 cell
+    × (slice_index (firsts_in places) found.0 + found.1 ≡ cell)
 
 module _ {A : Type 0} where
   -- the layout was refused for its size

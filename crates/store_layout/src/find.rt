@@ -1,8 +1,8 @@
 //! Finds the structure that a cell belongs to.
-ghost use Rattle.std.specs.Prelude.{◌≡◌, ℕ, ◌+◌, ◌^◌, ◌<◌, ◌≤◌, length, slice_index, MatchOption, ◌↔◌, IsTrue};
+ghost use Rattle.std.specs.Prelude.{◌≡◌, ◌+◌, ◌^◌, ◌<◌, ◌≤◌, ◌↔◌, length, IsTrue, MatchOption};
 ghost use Rattle.store_layout.specs.Shapes.{the_queue, the_log};
 ghost use Rattle.store_layout.specs.Spots.{object_of, place_of};
-ghost use Rattle.store_layout.specs.Plans.{firsts_in, IsAt};
+ghost use Rattle.store_layout.specs.Plans.{IsAtNone, IsFound};
 
 use crate::place::Place;
 use crate::spot::Spot;
@@ -12,7 +12,7 @@ use crate::spot::Spot;
 pub fn find_place(places: &[Place], more: u32, cell: u32) -> Option<(u32, u32)>
     requires more { more ≤ 1 }
     requires few { length places.now < 2 ^ 32 }
-    ensures { MatchOption result ((i : ℕ) → i < length places.now → IsAt places.now more i cell → ⊥) (λ r. (r.0 < length places.now) × IsAt places.now more r.0 cell × (slice_index (firsts_in places.now) r.0 + r.1 ≡ cell)) }
+    ensures { MatchOption result (IsAtNone places.now more cell) (IsFound places.now more cell) }
 {
     for (i, place) in places.iter().enumerate() {
         if has_cell(place, more, cell) {
