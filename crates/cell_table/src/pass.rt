@@ -104,7 +104,7 @@ impl<M: Meaning> Pass<M> {
     }
 
     /// What is true of every pass at any moment: among others that there is one legal history which it fits.
-    pub fn legal(&self)
+    pub fn legal_law(&self)
         ensures { IsPass M.lawful M.explains self.now }
     {
         let _ = &self.seat;

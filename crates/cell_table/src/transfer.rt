@@ -78,7 +78,7 @@ fn hold(table: &CellTable<FixedSum>, pass: &mut Pass<FixedSum>, cell: u32) -> u6
         unreachable!()
     };
     let value = table.look_value(pass, cell);
-    pass.alone();
+    pass.alone_law();
     value
 }
 

@@ -70,7 +70,7 @@ fn increment(
     ensures draws { IfOk result (λ p. p.view.draws ≡ pass.view.draws - 1) }
     ensures sum { IfOk result (λ p. cells_left p ≡ slice_set (cells_left pass) cell (slice_index (cells_left pass) cell + 1)) }
 {
-    pass.legal();
+    pass.legal_law();
     let Ok(mut tx) = Tx::begin(alloc, table, pass) else {
         return Err(AllocError);
     };

@@ -33,7 +33,7 @@ impl<'a, M: Meaning> Tx<'a, M> {
     pub fn limits_law(&self)
         ensures { (0 < length self.now.table.opening) × (length self.now.table.opening ≤ 2 ^ 24) }
     {
-        self.table.limits();
+        self.table.limits_law();
     }
 
     /// Each observation is of a cell of the table, and stands at the attempt's version in the view of its pass, but for
@@ -45,21 +45,21 @@ impl<'a, M: Meaning> Tx<'a, M> {
         ensures sized { length self.now.versions ≡ length self.now.observations }
         ensures undrawn { self.now.committing ≡ false → self.now.pass.view.stage ≡ Open }
     {
-        self.table.limits();
+        self.table.limits_law();
     }
 
     /// There is one legal history that all fits which the pass of the attempt ever found.
     pub fn legal_law(&self)
         ensures { IsPass M.lawful M.explains self.now.pass }
     {
-        self.pass.legal();
+        self.pass.legal_law();
     }
 
     /// Before its commit all that the attempt observed stands in one lawful list of cells: it saw the table at one moment.
     pub fn one_moment_law(&self)
         ensures { self.now.committing ≡ false → (m : M) → self.now.pass.view.meaning ≡ Some m → (cells : List ℕ) × M.lawful m cells × (length cells ≡ length self.now.table.opening) × AllHold cells self.now.observations }
     {
-        self.pass.one_moment();
+        self.pass.one_moment_law();
     }
 
     /// Before its commit a cell that the attempt observed has that value at its version, and no cell has two values there.
@@ -68,7 +68,7 @@ impl<'a, M: Meaning> Tx<'a, M> {
         ensures seen { (c x : ℕ) → word_at self.now.observations c ≡ Some x → Observes self.now.pass.view c x self.now.version }
         ensures one { (c x y : ℕ) → Observes self.now.pass.view c x self.now.version → Observes self.now.pass.view c y self.now.version → x ≡ y }
     {
-        self.pass.agrees();
+        self.pass.agrees_law();
     }
 
     /// The books of a pass with every caller number tell all that happened to the cells. An attempt begins at or after all
@@ -77,7 +77,7 @@ impl<'a, M: Meaning> Tx<'a, M> {
         ensures sole { IsSole self.now.pass → Alone self.now.pass }
         ensures begun { self.now.pass.seen ≤ self.now.version }
     {
-        self.pass.alone();
+        self.pass.alone_law();
     }
 
     /// Before its commit, for each addition that waits two places of each kind are kept.
@@ -86,6 +86,6 @@ impl<'a, M: Meaning> Tx<'a, M> {
         ensures each { self.now.committing ≡ false → (part : ℕ) → HasSpare self.now.spare (2 * length (waiting_of self.now.additions part)) }
         ensures few { (self.now.spare.locks < 2 ^ 32) × (self.now.spare.observations < 2 ^ 32) × (self.now.spare.writes < 2 ^ 32) }
     {
-        self.table.limits();
+        self.table.limits_law();
     }
 }

@@ -38,7 +38,7 @@ pub(crate) fn lock_newest<M: Meaning>(
     ensures twice { IfErr result (FoundTwice (length (trail_of pass.old)) (trail_of pass.new)) }
     ensures sole { IsSole pass.old → IsOk result }
 {
-    table.limits();
+    table.limits_law();
     let word = table.look_lock(pass, cell);
     let Some(found) = free_version(word) else {
         return Err(stop_at(cell, word));

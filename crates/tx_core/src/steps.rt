@@ -48,7 +48,7 @@ pub(crate) fn read_cell<M: Meaning>(
     ensures looked { IfOk result (λ r. FoundSince (length (trail_of pass.old)) (trail_of pass.new) cell (2 * r.1)) }
     ensures cause { IfErr result (IsCausedAt cell (callers_of pass.old.view.books) version (length (trail_of pass.old)) (trail_of pass.new)) }
 {
-    table.limits();
+    table.limits_law();
     let first = table.look_lock(pass, cell);
     let Some(found) = free_version(first) else {
         return Err(stop_at(cell, first));
@@ -59,7 +59,7 @@ pub(crate) fn read_cell<M: Meaning>(
     let value = table.look_value(pass, cell);
     let last = table.look_lock(pass, cell);
     if last != first {
-        pass.legal();
+        pass.legal_law();
         return Err(stop_at(cell, last));
     }
     Ok((value, found))
@@ -87,13 +87,13 @@ pub(crate) fn take_from<M: Meaning>(
     ensures cause { IfErr result (IsCausedAt cell (callers_of pass.old.view.books) version (length (trail_of pass.old)) (trail_of pass.new)) }
     ensures sole { IsSole pass.old → pass.old.seen ≤ version → IsOk result }
 {
-    table.limits();
+    table.limits_law();
     // A pass with every caller number knows the newest version.
-    pass.alone();
+    pass.alone_law();
     match table.take_lock(pass, cell, 2 * from) {
         Ok(()) => Ok(()),
         Err(word) => {
-            pass.legal();
+            pass.legal_law();
             Err(stop_at(cell, word))
         }
     }
@@ -120,7 +120,7 @@ pub(crate) fn lock_cell<M: Meaning>(
     ensures cause { IfErr result (IsCausedAt cell (callers_of pass.old.view.books) version (length (trail_of pass.old)) (trail_of pass.new)) }
     ensures sole { IsSole pass.old → pass.old.seen ≤ version → IsOk result }
 {
-    table.limits();
+    table.limits_law();
     let word = table.look_lock(pass, cell);
     let Some(found) = free_version(word) else {
         return Err(stop_at(cell, word));
@@ -190,10 +190,10 @@ pub(crate) fn still<M: Meaning>(
     ensures steps { GrewBy 1 (trail_of pass.old) (trail_of pass.new) }
     ensures cause { IfErr result (IsCausedAt seen.cell (callers_of pass.old.view.books) version (length (trail_of pass.old)) (trail_of pass.new)) }
 {
-    table.limits();
+    table.limits_law();
     let word = table.look_lock(pass, seen.cell);
     if word != 2 * seen.version {
-        pass.legal();
+        pass.legal_law();
         return Err(stop_at(seen.cell, word));
     }
     Ok(())

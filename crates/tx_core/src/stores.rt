@@ -41,7 +41,7 @@ pub(crate) fn store_all<M: Meaning>(
     ensures stores { Stores pass.old pass.new (record { observations = observations.items; writes = writes.items; dones = dones.items }) }
     ensures steps { GrewBy (length writes.items) (trail_of pass.old) (trail_of pass.new) }
 {
-    pass.legal();
+    pass.legal_law();
     let planned = writes.as_slice();
     let count = planned.len();
     let (cell, value) = planned[0];

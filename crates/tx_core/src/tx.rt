@@ -76,7 +76,7 @@ impl<'a, M: Meaning> Tx<'a, M> {
         ensures begun { IfOk result (λ tx. begun tx ≡ length (trail_of pass)) }
         ensures refused { IfErr result (λ back. back.0 ≡ pass) }
     {
-        table.limits();
+        table.limits_law();
         if let Err(memory) = pass.reserve() {
             return Err((pass, memory));
         }

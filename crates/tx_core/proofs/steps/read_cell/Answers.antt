@@ -49,7 +49,7 @@ returns-then-last-first-clause-cause g c =
       | inr near ↦
           let last : Validated c.look_lock-last.new.pass.view c.args.cell u c.look_value-value.new.pass.view.known = c.look_lock-last.ensures.still u is (omega arith) in
           let differ : c.in-Some.found ≢ u = λ same. c.if-last-first.true (is ∙ ap (λ (w : ℕ). 2 * w) (sym same) ∙ sym c.in-Some.ensures.1) in
-          omega (arith, c.requires.known, newer_than _ _ _ c.legal.ensures.legal _ _ _ _ _ kept last differ (omega arith))
+          omega (arith, c.requires.known, newer_than _ _ _ c.legal_law.ensures.legal _ _ _ _ _ kept last differ (omega arith))
     ] in
     let free : has c.args.cell (cells_of c.look_value-value.new.pass.view.held) ≡ false = rw (two.1.held, one.1.held) c.requires.free in
     let found = found_by_load (length (trail_of c.args.pass.now)) _ _ _ _ (omega (arith, ap length c.look_value-value.ensures.step, ap length c.look_lock-first.ensures.step, length-append {A = Event})) c.look_lock-last.ensures.step in

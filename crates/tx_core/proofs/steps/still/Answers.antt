@@ -19,7 +19,7 @@ above g c u is =
           let asked : Validated c.look_lock-word.new.pass.view c.args.seen.cell c.args.seen.version seen.upto = looks.1.grows.validations _ seen.validated in
           let found : Validated c.look_lock-word.new.pass.view c.args.seen.cell u c.args.pass.now.view.known = c.look_lock-word.ensures.still u is near in
           let differ : c.args.seen.version ≢ u = λ same. c.if-word-seen.true (is ∙ ap (λ (w : ℕ). 2 * w) (sym same)) in
-          omega (arith, seen.far, newer_than _ _ _ c.legal.ensures.legal _ _ _ _ _ asked found differ seen.near)
+          omega (arith, seen.far, newer_than _ _ _ c.legal_law.ensures.legal _ _ _ _ _ asked found differ seen.near)
     ]
 
 pub returns-then-word-seen-clause-cause : goal.returns-then-word-seen-clause-cause

@@ -21,7 +21,7 @@ returns-in-Err-clause-cause g c =
           let asked : Validated c.take_lock.new.pass.view c.args.cell c.args.from newest.0 = rw view ((missed_is c.args.pass.now.view c.args.cell c.in-Err.word).grows.validations _ newest.3) in
           let found : Validated c.take_lock.new.pass.view c.args.cell u c.args.pass.now.view.known = rw view (missed_validates c.args.pass.now.view c.args.cell c.in-Err.word u is near) in
           let differ : c.args.from ≢ u = λ same. c.in-Err.ensures.found.0 (is ∙ ap (λ (w : ℕ). 2 * w) (sym same)) in
-          omega (arith, newest.1, newer_than _ _ _ c.legal.ensures.legal _ _ _ _ _ asked found differ newest.2)
+          omega (arith, newest.1, newer_than _ _ _ c.legal_law.ensures.legal _ _ _ _ _ asked found differ newest.2)
     ] in
     stopped_by c.args.pass.now.view c.args.version (length (trail_of c.args.pass.now)) c.args.cell c.in-Err.word (trail_of c.take_lock.new.pass) c.stop_at.result
     c.in-Err.ensures.found.2 c.requires.free (found_by_exchange _ _ _ _ _ (omega arith) c.in-Err.ensures.step) c.stop_at.ensures.held c.stop_at.ensures.newer above

@@ -22,7 +22,7 @@ loop-index-init g c = storing_begins _ c.args.pass.now _ c.plan.new.self c.put_v
 
 -- the next value is found in the book
 last : (g : _) (c : In-loop-index g) → last_writes c.loop-index.pass.books ≡ c.args.writes.items
-last g c = ap last_writes c.loop-index.invariant.books ∙ last_note _ _ c.args.pass.now.books (rw c.legal.ensures.books c.legal.ensures.acting)
+last g c = ap last_writes c.loop-index.invariant.books ∙ last_note _ _ c.args.pass.now.books (rw c.legal_law.ensures.books c.legal_law.ensures.acting)
 
 pub last_write-cell-requires : goal.last_write-cell-requires
 last_write-cell-requires g c = rw (last g c, ← c.as_slice-planned.ensures.value) c.loop-index-test.true

@@ -13,4 +13,4 @@ returns-clause-seen g c =
     (observes_by c.self.inside.pass.view c.self.inside.version c.self.inside.reads.observations (λ i lt. observes_of _ _ _ _ _ ((c.self.invariant.0.observed i lt).stands (c.self.invariant.0.early early i lt))))
 
 pub returns-clause-one : goal.returns-clause-one
-returns-clause-one g c = subst (λ (a : Attempt _ _). (cell x y : ℕ) → Observes a.pass.view cell x a.version → Observes a.pass.view cell y a.version → x ≡ y) c.self.view_is (λ cell x y a b. c.agrees.ensures cell x y c.self.inside.version a b)
+returns-clause-one g c = subst (λ (a : Attempt _ _). (cell x y : ℕ) → Observes a.pass.view cell x a.version → Observes a.pass.view cell y a.version → x ≡ y) c.self.view_is (λ cell x y a b. c.agrees_law.ensures cell x y c.self.inside.version a b)

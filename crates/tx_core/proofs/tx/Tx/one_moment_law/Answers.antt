@@ -6,7 +6,7 @@ use Rattle.tx_core.proofs.tx.Tx.one_moment_law.Goals as goal
 -- each observation stands at the version, where the pass finds one list of cells
 pub returns : goal.returns
 returns g c = rw (← c.self.view_is) (λ before m is.
-    let found = c.one_moment.ensures m is c.self.inside.version in (
+    let found = c.one_moment_law.ensures m is c.self.inside.version in (
       found.0,
       found.1,
       found.2 ∙ ap length c.self.invariant.0.of.2,

@@ -1,5 +1,0 @@
-use Rattle.cell_table.proofs.Laws.{observations_agree}
-use Rattle.cell_table.proofs.pass.Pass.agrees.Goals as goal
-
-pub returns : goal.returns
-returns g c = observations_agree g.M.Meaning.lawful g.M.Meaning.explains _ c.legal.ensures.legal
