@@ -30,7 +30,7 @@ returns-in-Err-clause-cause g c =
 pub returns-in-Err-clause-sole : goal.returns-in-Err-clause-sole
 returns-in-Err-clause-sole g c = λ sole low.
     let newest = c.requires.newest in
-    let alone = c.alone.ensures sole in
+    let alone = c.alone_law.ensures sole in
     let known : newest_in (writers_in c.args.pass.now.books) c.args.cell ≡ c.args.from = ap (λ (ts : List (ℕ × Record _)). newest_in ts c.args.cell) (sym (alone.all newest.0 (omega (arith, low, newest.1)))) ∙ alone.newest c.args.cell c.args.from newest.0 newest.3 in
     let found : c.in-Err.word ≡ 2 * newest_in (writers_in c.args.pass.now.books) c.args.cell = (c.in-Err.ensures.sole sole c.requires.free).1 in
     absurd (c.in-Err.ensures.found.0 (found ∙ ap (λ (n : ℕ). 2 * n) known))
