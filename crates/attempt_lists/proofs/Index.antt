@@ -7,7 +7,7 @@ use Rattle.std.proofs.lemmas.Bool.Decides.{nat_tests}
 use Rattle.std.proofs.lemmas.Grind.{common_steps}
 use Rattle.attempt_lists.specs.Cells.{Entries, word_at, word_of, cell_at, NoCellTwice}
 use Rattle.attempt_lists.specs.Index.{Passes, AllPass, IsIndex}
-use Rattle.attempt_lists.proofs.Words.{word_absent, word_present, none_from_word}
+use Rattle.attempt_lists.specs.Words.{word_absent, word_present, none_from_word}
 
 -- what a look for the cell answers
 abbrev pub Answers : Entries → ℕ → Option ℕ → Type 0

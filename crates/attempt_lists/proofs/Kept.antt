@@ -8,7 +8,7 @@ use Rattle.std.proofs.lemmas.Grind.{common_steps}
 use Rattle.attempt_lists.specs.Cells.{Entries, word_at, cell_at, NoCellTwice}
 use Rattle.attempt_lists.specs.Index.{Passes, AllPass, Indexes, owed}
 use Rattle.attempt_lists.specs.declared.cell_index.CellIndex.{CellIndex}
-use Rattle.attempt_lists.proofs.Words.{none_from_word}
+use Rattle.attempt_lists.specs.Words.{none_from_word}
 
 -- the first n entries are entries of the list
 taken : (es : Entries) (n i : ℕ) → i < length (take n es) → (i < length es) × (cell_at (take n es) i ≡ cell_at es i)

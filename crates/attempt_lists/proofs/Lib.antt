@@ -1,6 +1,4 @@
-pub mod Words
 pub mod Index
 pub mod Kept
 pub mod Places
 pub mod PartLists
-pub mod LaidOver

@@ -10,7 +10,7 @@ use Rattle.std.proofs.lemmas.List.Edits.{length-insert, get_or-insert_below, get
 use Rattle.std.proofs.lemmas.Bool.Decides.{nat_tests}
 use Rattle.std.proofs.lemmas.Grind.{common_steps}
 use Rattle.attempt_lists.specs.Cells.{Entries, word_at, cell_at, put, IsAscending, IsPlaceOf, IsGapFor}
-use Rattle.attempt_lists.proofs.Words.{NoneBefore, word_absent, word_present}
+use Rattle.attempt_lists.specs.Words.{NoneBefore, word_absent, word_present}
 
 module _ (es : Entries) (ascending : IsAscending es) (cell at : ℕ) (place : IsPlaceOf es cell at) where
   -- the cells before the place are smaller, so none is the cell

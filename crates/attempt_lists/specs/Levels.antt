@@ -1,7 +1,7 @@
 -- Writes at two levels: those of an attempt, and over them those of its open child.
 use Rattle.std.specs.Prelude.{ℕ, Option}
 use Rattle.std.specs.Option.{option_or}
-use Rattle.attempt_lists.specs.Cells.{Entries, word_at}
+use Rattle.attempt_lists.specs.Cells.{Entries, word_at, laid_over}
 
 -- the writes of each level, and for how many more of the lower level there is room that is promised
 pub record Levels : Type 0 where
@@ -12,3 +12,7 @@ pub record Levels : Type 0 where
 -- the word that is written to the cell: that of the child where it wrote the cell, else that of the parent
 abbrev pub written : Levels → ℕ → Option ℕ
 written levels cell = option_or (word_at levels.child cell) (word_at levels.parent cell)
+
+-- the writes of both levels, in ascending order of cells
+abbrev pub merged : Levels → Entries
+merged levels = laid_over levels.parent levels.child

@@ -1,4 +1,6 @@
 pub mod Cells
+pub mod Words
+pub mod Laid
 pub mod Index
 pub mod Levels
 pub mod Observed

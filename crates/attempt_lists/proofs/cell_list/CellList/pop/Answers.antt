@@ -1,6 +1,6 @@
 use Rattle.std.proofs.Common.{subst}
 use Rattle.attempt_lists.specs.Cells.{NoCellTwice}
-use Rattle.attempt_lists.proofs.Words.{last_gone}
+use Rattle.attempt_lists.specs.Words.{last_gone}
 use Rattle.attempt_lists.proofs.cell_list.CellList.pop.Goals as goal
 
 -- no cell was in the list twice

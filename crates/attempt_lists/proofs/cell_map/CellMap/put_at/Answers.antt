@@ -1,6 +1,6 @@
 use Rattle.std.proofs.Common.{◌<◌, ap, arith, refl}
 use Rattle.attempt_lists.specs.Cells.{Listed, IsPlaceOf, IsGapFor}
-use Rattle.attempt_lists.proofs.LaidOver.{word_at-put}
+use Rattle.attempt_lists.specs.Laid.{word_at-put}
 use Rattle.attempt_lists.proofs.Places.{put_set, put_insert, ascending_insert}
 use Rattle.attempt_lists.proofs.Kept.{pass_inserted}
 use Rattle.attempt_lists.proofs.cell_map.CellMap.put_at.Goals as goal
