@@ -92,7 +92,7 @@ fn commit(mut tx: Tx<'_, Untold>) -> Result<Pass<Untold>, Refused>
     match tx.lock_writes() {
         Ok(()) => publish(tx),
         Err(stop) => {
-            let _ = tx.abort();
+            tx.abort();
             Err(Refused::Stopped(stop))
         }
     }
@@ -112,7 +112,7 @@ fn publish(mut tx: Tx<'_, Untold>) -> Result<Pass<Untold>, Refused>
     match tx.draw_and_check() {
         Ok(_) => Ok(tx.publish()),
         Err(stop) => {
-            let _ = tx.abort();
+            tx.abort();
             Err(Refused::Stopped(stop))
         }
     }
@@ -140,7 +140,7 @@ pub fn commit_all(alloc: Global, cells: u32) -> Result<Committed, Refused>
         Err((_, memory)) => return Err(memory.into()),
     };
     if let Err(refused) = add_one_to_each(&mut tx, cells) {
-        let _ = tx.abort();
+        tx.abort();
         return Err(refused);
     }
     let version = tx.version();

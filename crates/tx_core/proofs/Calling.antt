@@ -1,23 +1,21 @@
 -- What the calls of one cell leave of an attempt, as the words for calls say it.
-use Rattle.std.proofs.Common.{◌≡◌, ◌≢◌, ℕ, ◌+◌, ◌-◌, ◌<◌, ◌≤◌, eqb, true, false, List, [], ◌∷◌, ◌++◌, length, slice_index, set, Some, None, ◌⊎◌, inl, inr, refl, sym, ap, subst, ◌∙◌, arith, append-nil, get_or-set_other, if◌then◌else◌}
+use Rattle.std.proofs.Common.{◌≡◌, ◌≢◌, ℕ, ◌≤◌, List, [], ◌∷◌, ◌++◌, slice_index, Some, None, ◌⊎◌, inl, inr, refl, sym, ap, subst, ◌∙◌, arith, append-nil, get_or-set_other}
 use Rattle.std.proofs.Math.Nat.{zero-add}
 use Rattle.std.proofs.lemmas.Bool.Decides.{nat_tests}
 use Rattle.std.specs.Prelude.{Option, IsSome, slice_set}
 use Rattle.cell_table.specs.Cells.{has, after}
-use Rattle.cell_table.specs.Sorted.{Each, Among, insert_by}
+use Rattle.cell_table.specs.Sorted.{Each, Among}
 use Rattle.cell_table.specs.Rule.{cells_of}
-use Rattle.cell_table.specs.Steps.{cell_key}
-use Rattle.cell_table.specs.declared.view.View.{View}
 use Rattle.cell_table.specs.Pass.{PassState, IsSole, IsHeld, trail_of}
 use Rattle.attempt_lists.specs.Cells.{Entries, word_at, put}
 use Rattle.tx_core.specs.declared.stop.Stop.{Stop}
 use Rattle.tx_core.specs.declared.stop.Stop.TheVariants.{Memory}
 use Rattle.tx_core.specs.Causes.{IsOfCell, IsOfOne, GrewBy, begun_of}
-use Rattle.tx_core.specs.Seen.{LooksOnly, HoldsOnly, KnowsMore}
+use Rattle.tx_core.specs.Seen.{LooksOnly, HoldsOnly}
 use Rattle.tx_core.specs.Tx.{Attempt, Observed, ObservedLate}
-use Rattle.tx_core.specs.Calls.{stopped_from, IsOfThese, TouchesOnly, GoesOn, StepsAt, CausedIn, StopsAt, EndsAt, HoldsAt, LooksAt, Locks}
+use Rattle.tx_core.specs.Calls.{stopped_from, IsOfThese, TouchesOnly, GoesOn, StepsAt, CausedIn, EndsAt, HoldsAt, LooksAt, Locks}
 use Rattle.tx_core.specs.Words.{put_other}
-use Rattle.tx_core.specs.Facts.{of_cell, of_found, found_at_in, grew_none, grew_more, goes_holds, goes_looks, goes_knows, goes_none, touches_none, looks_none, looks_wider, steps_wider, steps_none, steps_trans}
+use Rattle.tx_core.specs.Facts.{of_cell, of_found, found_at_in, grew_none, grew_more, goes_holds, goes_looks, goes_none, touches_none, looks_none, looks_wider, steps_trans}
 use Rattle.tx_core.proofs.Locking.{has_insert, among_insert}
 
 none_of : (o : Option ℕ) → (IsSome o → ⊥) → o ≡ None

@@ -9,8 +9,7 @@ use Rattle.attempt_lists.specs.Cells.{cell_at}
 use Rattle.attempt_lists.specs.Observed.{Observed}
 use Rattle.tx_core.specs.Causes.{GrewBy}
 use Rattle.tx_core.specs.Seen.{LooksOnly}
-use Rattle.tx_core.proofs.Looks.{looks_trans}
-use Rattle.tx_core.proofs.Found.{grew_trans}
+use Rattle.tx_core.specs.Facts.{looks_trans, grew_trans}
 
 -- the first n observations are validated
 pub record IsChecking {M D : Type 0} (table : TableState M) (start : PassState M D) (reads : Observed) (n : ℕ) (p : PassState M D) : Type 0 where

@@ -15,7 +15,7 @@ use Rattle.cell_table.specs.Pass.{TableState, PassState, IsPassOf, IsHeld, after
 use Rattle.attempt_lists.specs.Cells.{Entries, word_at, cell_at, NoCellTwice}
 use Rattle.tx_core.specs.Causes.{GrewBy}
 use Rattle.tx_core.specs.Seen.{GivesBack}
-use Rattle.tx_core.proofs.Looks.{grows_trans}
+use Rattle.tx_core.specs.Facts.{grows_trans}
 
 -- what holds while cells are given back
 pub record IsGiving {M D : Type 0} (table : TableState M) (first : PassState M D) (all : Entries) (p : PassState M D) (held : Entries) : Type 0 where

@@ -16,9 +16,7 @@ use Rattle.tx_core.specs.Causes.{GrewBy}
 use Rattle.tx_core.specs.Seen.{Takes, HoldsOnly, SameOthers}
 use Rattle.tx_core.specs.Tx.{IsAttempt}
 use Rattle.tx_core.specs.Calls.{newly_held}
-use Rattle.tx_core.specs.Facts.{length_insert}
-use Rattle.tx_core.proofs.Looks.{grows_trans}
-use Rattle.tx_core.proofs.Found.{grew_none, grew_more, grew_trans}
+use Rattle.tx_core.specs.Facts.{length_insert, grew_none, grew_more, grew_trans, holds_only_none, holds_only_trans}
 use Rattle.tx_core.proofs.Locking.{attempt_locks_known, has_insert, no_entry}
 
 -- what holds of every cell of a list holds of the cell at a place
@@ -74,21 +72,6 @@ pub word_there : (es : Entries) (i : ℕ) → i < length es → IsSome (word_at 
 word_there [] i lt = absurd (omega arith)
 word_there (e ∷ es) zero lt = grind (arith, nat_tests)
 word_there (e ∷ es) (suc i) lt = grind (arith, nat_tests, word_there es i (omega arith))
-
-module _ {M D : Type 0} where
-  pub holds_only_none : (p : PassState M D) → HoldsOnly p p
-  holds_only_none p = record { is = refl; grows = record { meaning = refl; opening = refl; total = refl; known = omega arith; values = λ t h. h; validations = λ t h. h }; books = refl; draws = refl; known = refl; stage = refl; begun = refl }
-
-  pub holds_only_trans : (p q r : PassState M D) → HoldsOnly p q → HoldsOnly q r → HoldsOnly p r
-  holds_only_trans p q r a b = record {
-    is = b.is ∙ ap (λ (s : PassState M D). record s { view = r.view; places = r.places }) a.is;
-    grows = grows_trans p.view q.view r.view a.grows b.grows;
-    books = b.books ∙ a.books;
-    draws = b.draws ∙ a.draws;
-    known = b.known ∙ a.known;
-    stage = b.stage ∙ a.stage;
-    begun = b.begun ∙ a.begun;
-  }
 
 -- After n written cells were tried and m of them are held
 pub record IsLocking {M D : Type 0} (table : TableState M) (version : ℕ) (reads : Observed) (writes : Levels) (start : PassState M D) (room n m : ℕ) (p : PassState M D) (held : Listed) : Type 0 where

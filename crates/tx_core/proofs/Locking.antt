@@ -18,7 +18,8 @@ use Rattle.attempt_lists.specs.Observed.{Observed}
 use Rattle.tx_core.specs.Causes.{begun_of}
 use Rattle.tx_core.specs.Seen.{LooksOnly, IsSeen, Takes, HoldsOnly, SameOthers}
 use Rattle.tx_core.specs.Tx.{IsAttempt}
-use Rattle.tx_core.proofs.Looks.{grows_trans, seen_grows}
+use Rattle.tx_core.specs.Facts.{grows_trans}
+use Rattle.tx_core.proofs.Looks.{seen_grows}
 use Rattle.tx_core.proofs.AttemptFacts.{cell_at-push, number_at-push, word_at-push}
 
 pub has_insert : (c cell u : ℕ) (held : List (ℕ × ℕ)) → has c (cells_of (insert_by cell_key (cell, u) held)) ≡ (if eqb cell c then true else has c (cells_of held))

@@ -17,6 +17,7 @@ use Rattle.cell_table.specs.Steps.{taken, drawn, validate_all, validate_open, cl
 use Rattle.tx_core.specs.Causes.{begun_of}
 use Rattle.tx_core.specs.Seen.{IsLooked, LooksOnly, KnowsMore, StandsAt, IsSeen, Takes}
 use Rattle.std.proofs.lemmas.Bool.{cases_lt}
+use Rattle.tx_core.specs.Facts.{grows_trans}
 
 -- a list of triples keeps what it has
 abbrev pub HasAll : Triples → Triples → Type 0
@@ -100,30 +101,6 @@ module _ {M D : Type 0} where
       at : (b : Bool) → HasAll v.validations (cond b (add_validation c (r / 2) v.known v.validations) v.validations)
       at true = has_all_validation c (r / 2) v.known v.validations
       at false = λ t h. h
-
-  pub grows_trans : (u v w : View M D) → Grows u v → Grows v w → Grows u w
-  grows_trans u v w a b = record {
-    meaning = b.meaning ∙ a.meaning;
-    opening = b.opening ∙ a.opening;
-    total = b.total ∙ a.total;
-    known = omega (arith, a.known, b.known);
-    values = λ t h. b.values t (a.values t h);
-    validations = λ t h. b.validations t (a.validations t h);
-  }
-
-  pub looked_trans : (u v w : View M D) → IsLooked u v → IsLooked v w → IsLooked u w
-  looked_trans u v w a b = record {
-    grows = grows_trans u v w a.grows b.grows;
-    books = b.books ∙ a.books;
-    draws = b.draws ∙ a.draws;
-    known = b.known ∙ a.known;
-    held = b.held ∙ a.held;
-    stage = b.stage ∙ a.stage;
-    begun = b.begun ∙ a.begun;
-  }
-
-  pub looks_trans : (p q r : PassState M D) → LooksOnly p q → LooksOnly q r → LooksOnly p r
-  looks_trans p q r a b = (b.0 ∙ ap (λ (s : PassState M D). with_view s r.view) a.0, looked_trans p.view q.view r.view a.1 b.1)
 
   -- one step, from what its clause says of the pass
   pub looks_by : (p q : PassState M D) (w : View M D) → q ≡ with_view p w → IsLooked p.view w → LooksOnly p q
@@ -232,9 +209,6 @@ has_all_all (k ∷ ks) p ss t h = inr (has_all_all ks p ss t h)
 
 pub drawn_grows : {M D : Type 0} (v : View M D) (d : ℕ) → v.known < d → Grows v (drawn v d)
 drawn_grows v d later = record { meaning = refl; opening = refl; total = refl; known = omega arith; values = λ t h. h; validations = has_all_all v.held (d - 1) v.validations }
-
-pub observes_grows : {M D : Type 0} (v w : View M D) (c x p : ℕ) → Grows v w → Observes v c x p → Observes w c x p
-observes_grows v w c x p g o = (o.0, o.1, g.values _ o.2, g.validations _ o.3, o.4, o.5)
 
 has_all_open : {D : Type 0} (st : Stage D) (held : List (ℕ × ℕ)) (p : ℕ) (ss : Triples) → HasAll ss (validate_open st held p ss)
 has_all_open Open held p ss = has_all_all held p ss

@@ -10,7 +10,7 @@ use Rattle.attempt_lists.specs.Levels.{Levels}
 use Rattle.attempt_lists.specs.Observed.{Observed}
 use Rattle.attempt_lists.specs.Parts.{Waiting, waiting_of, ChangesOnly}
 use Rattle.tx_core.specs.declared.spare.Spare.{Spare}
-use Rattle.tx_core.specs.Additions.{IsProvided, HasSpare, HasTwoEach, waiting_in, more_spare}
+use Rattle.tx_core.specs.Additions.{IsProvided, HasSpare, HasTwoEach, promised, waiting_in, more_spare}
 
 waiting_none : (additions : List Waiting) → ((part : ℕ) → waiting_of additions part ≡ []) → (parts : List ℕ) → waiting_in additions parts ≡ 0
 waiting_none additions none [] = refl
@@ -75,7 +75,7 @@ left_fits false spare reserved left now l n le = (omega (arith, l, n, le), omega
 
 module _ {M D : Type 0} where
   -- other additions wait, for which as much is kept
-  pub provided_adds : (p : PassState M D) (reads : Observed) (writes : Levels) (held : Listed) (additions more : List Waiting) (spare kept : Spare) (committing : Bool) → IsProvided p reads writes held additions spare committing → kept.locks ≤ held.reserved → kept.observations ≤ reads.reserved → kept.writes ≤ writes.reserved → (kept.locks < 2 ^ 32) × (kept.observations < 2 ^ 32) × (kept.writes < 2 ^ 32) → (committing ≡ false → length writes.parent + kept.locks ≤ held.reserved) → (committing ≡ false → HasTwoEach kept more) → IsProvided p reads writes held more kept committing
+  pub provided_adds : (p : PassState M D) (reads : Observed) (writes : Levels) (held : Listed) (additions more : List Waiting) (spare kept : Spare) (committing : Bool) → IsProvided p reads writes held additions spare committing → kept.locks ≤ held.reserved → kept.observations ≤ reads.reserved → kept.writes ≤ writes.reserved → (kept.locks < 2 ^ 32) × (kept.observations < 2 ^ 32) × (kept.writes < 2 ^ 32) → (committing ≡ false → promised writes kept.locks ≤ held.reserved) → (committing ≡ false → HasTwoEach kept more) → IsProvided p reads writes held more kept committing
   provided_adds p reads writes held additions more spare kept committing a locks observations written few room twice = record {
     locks = a.locks;
     spare_locks = locks;
@@ -88,7 +88,7 @@ module _ {M D : Type 0} where
 
 module _ {M D : Type 0} where
   -- the lists have as much room as is kept
-  pub provided_moves : (p q : PassState M D) (reads after : Observed) (writes more : Levels) (held now : Listed) (additions : List Waiting) (spare : Spare) (committing : Bool) → IsProvided p reads writes held additions spare committing → now.reserved ≤ q.places → spare.locks ≤ now.reserved → spare.observations ≤ after.reserved → spare.writes ≤ more.reserved → (committing ≡ false → length more.parent + spare.locks ≤ now.reserved) → IsProvided q after more now additions spare committing
+  pub provided_moves : (p q : PassState M D) (reads after : Observed) (writes more : Levels) (held now : Listed) (additions : List Waiting) (spare : Spare) (committing : Bool) → IsProvided p reads writes held additions spare committing → now.reserved ≤ q.places → spare.locks ≤ now.reserved → spare.observations ≤ after.reserved → spare.writes ≤ more.reserved → (committing ≡ false → promised more spare.locks ≤ now.reserved) → IsProvided q after more now additions spare committing
   provided_moves p q reads after writes more held now additions spare committing a locks spare_locks spare_observations spare_writes room = record {
     locks = locks;
     spare_locks = spare_locks;

@@ -19,7 +19,7 @@ use Rattle.cell_table.specs.Pass.{TableState, PassState, IsPassOf, IsHeld, MayPu
 use Rattle.attempt_lists.specs.Cells.{Entries, IsAscending, cell_at, word_at, word_of}
 use Rattle.tx_core.specs.Causes.{GrewBy}
 use Rattle.tx_core.specs.Stored.{Stores, writes_of_last, last_writes}
-use Rattle.tx_core.proofs.Looks.{grows_trans}
+use Rattle.tx_core.specs.Facts.{grows_trans}
 use Rattle.tx_core.proofs.Found.{grew_step}
 use Rattle.tx_core.proofs.LateLocks.{word_there}
 

@@ -21,6 +21,10 @@ HasSpare spare n = (n ≤ spare.locks) × (n ≤ spare.observations) × (n ≤ s
 abbrev pub HasTwoEach : Spare → List Waiting → Type 0
 HasTwoEach spare additions = (parts : List ℕ) → IsDistinct nat_eq parts → HasSpare spare (2 * waiting_in additions parts)
 
+-- the places for locks that are promised: one for each write of both levels, and those that are kept for additions
+abbrev pub promised : Levels → ℕ → ℕ
+promised writes kept = length writes.parent + length writes.child + kept
+
 -- n more places of each kind
 abbrev pub more_spare : ℕ → Spare → Spare
 more_spare n spare = record { locks = spare.locks + n; observations = spare.observations + n; writes = spare.writes + n }
@@ -33,5 +37,5 @@ pub record IsProvided {M D : Type 0} (pass : PassState M D) (reads : lists.Obser
   pub spare_writes : spare.writes ≤ writes.reserved
   pub few : (spare.locks < 2 ^ 32) × (spare.observations < 2 ^ 32) × (spare.writes < 2 ^ 32)
   -- before the commit there is room for a lock of each cell that is written, beside what is kept for the additions
-  pub room : committing ≡ false → length writes.parent + spare.locks ≤ held.reserved
+  pub room : committing ≡ false → promised writes spare.locks ≤ held.reserved
   pub twice : committing ≡ false → HasTwoEach spare additions

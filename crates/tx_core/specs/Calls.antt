@@ -1,5 +1,5 @@
 -- Which calls of an attempt may follow, what the attempt knows, and what a call leaves of it.
-use Rattle.std.specs.Prelude.{◌≡◌, ◌≢◌, ℕ, ◌<◌, ◌≤◌, ◌+◌, ◌-◌, ◌*◌, ◌⊎◌, Bool, true, false, List, [], ◌++◌, length, slice_index, Option, Some, None, IsSome, Result, Ok, Err}
+use Rattle.std.specs.Prelude.{◌≡◌, ◌≢◌, ℕ, ◌<◌, ◌≤◌, ◌+◌, ◌-◌, ◌⊎◌, Bool, true, false, List, [], ◌++◌, length, slice_index, Option, Some, None, IsSome, Result, Ok, Err}
 use Rattle.std.specs.Option.{option_or}
 use Rattle.cell_table.specs.Cells.{has, after}
 use Rattle.cell_table.specs.Sorted.{Each, Among, insert_by}

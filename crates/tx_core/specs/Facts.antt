@@ -1,27 +1,27 @@
 -- Facts of what calls leave of attempts, whatever the table's meaning, for the proofs of this crate and of those above.
-use Rattle.std.proofs.Common.{◌≡◌, ◌≢◌, ℕ, zero, suc, ◌+◌, ◌*◌, ◌≤◌, cond, false, true, Bool, ltb, ◌<◌, List, [], ◌∷◌, ◌++◌, length, slice_get, slice_index, inl, inr, Some, None, refl, sym, ap, subst, ◌∙◌, arith, append-nil, append_assoc, length-append}
+use Rattle.std.proofs.Common.{◌≡◌, ℕ, zero, suc, ◌+◌, ◌*◌, ◌≤◌, cond, false, true, Bool, ltb, List, [], ◌∷◌, ◌++◌, length, slice_get, slice_index, inl, inr, Some, None, refl, sym, ap, subst, ◌∙◌, arith, append-nil, append_assoc, length-append}
 use Rattle.std.proofs.lemmas.List.{length-reverse}
 use Rattle.std.proofs.Math.Decide.{ℕ_discrete}
 use Rattle.std.proofs.lemmas.Bool.Decides.{nat_tests}
 use Rattle.std.specs.Prelude.{Option}
 use Rattle.std.specs.Option.{option_or}
-use Rattle.cell_table.specs.Cells.{has, after, AllHold}
+use Rattle.cell_table.specs.Cells.{has, after}
 use Rattle.cell_table.specs.Sorted.{Each, Among, insert_by}
 use Rattle.cell_table.specs.Rule.{cells_of, callers_of}
 use Rattle.cell_table.specs.declared.view.View.{View}
 use Rattle.cell_table.specs.declared.view.Event.{Event}
 use Rattle.cell_table.specs.declared.view.Event.TheVariants.{ClockLoaded, LockLoaded, ValueLoaded, LockExchanged, VersionDrawn, ValueStored, LockStored, SeatMoved}
 use Rattle.cell_table.specs.Steps.{Grows, Observes, cell_key}
-use Rattle.cell_table.specs.Pass.{PassState, IsHeld, IsSole, trail_of, with_view}
-use Rattle.attempt_lists.specs.Cells.{Entries, word_at, put, IsAscending}
+use Rattle.cell_table.specs.Pass.{PassState, IsSole, trail_of, with_view}
+use Rattle.attempt_lists.specs.Cells.{Entries, word_at}
 use Rattle.tx_core.specs.declared.spare.Spare.{Spare}
 use Rattle.tx_core.specs.declared.stop.Stop.{Stop}
 use Rattle.tx_core.specs.declared.stop.Stop.TheVariants.{Held, Newer, Memory}
 use Rattle.tx_core.specs.Causes.{FoundSince, FoundTwice, CausedSince, IsOfCell, IsFoundAt, IsFound, GrewBy, begun_of}
-use Rattle.tx_core.specs.Seen.{IsLooked, LooksOnly, HoldsOnly, KnowsMore, SameOthers}
-use Rattle.tx_core.specs.Tx.{Attempt, Observed}
+use Rattle.tx_core.specs.Seen.{IsLooked, LooksOnly, HoldsOnly, KnowsMore}
+use Rattle.tx_core.specs.Tx.{Attempt}
 use Rattle.tx_core.specs.Words.{word_at_more}
-use Rattle.tx_core.specs.Calls.{IsOpen, stopped_from, IsOfThese, IsFoundIn, UsesAtMost, KeepsOthers, known, KeepsHeld, HoldsWrites, TouchesOnly, GoesOn, StepsAt, begun, IsCausedInAttempt, CausedIn, StopsAt, EndsAt, HoldsAt, LooksAt}
+use Rattle.tx_core.specs.Calls.{stopped_from, IsOfThese, IsFoundIn, UsesAtMost, known, KeepsHeld, TouchesOnly, GoesOn, StepsAt, begun, IsCausedInAttempt, CausedIn, StopsAt, EndsAt, HoldsAt, LooksAt}
 
 -- ---- trails
 

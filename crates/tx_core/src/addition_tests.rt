@@ -39,7 +39,7 @@ fn additions_are_taken_in_the_order_in_which_they_came(rt: HostRuntime) -> Resul
     assert_eq!(rt; tx.take_later(0), Some(5));
     assert_eq!(rt; tx.take_later(0), Some(6));
     assert_eq!(rt; tx.take_later(0), None);
-    let _ = tx.abort();
+    tx.abort();
     Ok(())
 }
 
@@ -60,8 +60,8 @@ fn a_look_at_a_held_cell_leaves_the_attempt_running(rt: HostRuntime) -> Result<(
     assert_eq!(rt; first.peek(0), Err(held));
     assert_eq!(rt; try_to_hold(&mut first, 0), Some(held));
     assert_eq!(rt; first.state(), TxState::Stopped);
-    let _ = first.abort();
-    let _ = second.abort();
+    first.abort();
+    second.abort();
     Ok(())
 }
 
@@ -77,6 +77,6 @@ fn an_addition_is_placed_in_the_commit(rt: HostRuntime) -> Result<(), Fail> {
     tx.write_reserved(0, 9);
     assert_eq!(rt; tx.check_now(), Ok(0));
     assert_eq!(rt; tx.draw_and_check(), Ok(1));
-    let _ = tx.abort();
+    tx.abort();
     Ok(())
 }

@@ -7,28 +7,33 @@ ghost use Rattle.cell_table.specs.declared.view.Stage.TheVariants.{Open};
 ghost use Rattle.cell_table.specs.Steps.{IsStoredOrUndecided, IsIdle};
 ghost use Rattle.cell_table.specs.Pass.{IsPassOf, trail_of};
 ghost use Rattle.attempt_lists.specs.Cells.{word_at};
+ghost use Rattle.tx_core.specs.Additions.{promised};
 ghost use Rattle.tx_core.specs.Causes.{GrewBy};
 ghost use Rattle.tx_core.specs.Seen.{GivesBack};
 
-use attempt_lists::CellList;
+use attempt_lists::{CellList, WriteSet};
 use cell_table::{CellTable, Meaning, Pass};
 use std::alloc::AllocError;
 
-/// Sees that there is room for one more lock beside those promised, in the list of held cells and in the pass.
+/// Sees that there is room for one more lock in the list of held cells and in the pass, beside those promised: one for each write
+/// of both levels, and those that are kept for additions.
 pub(crate) fn reserve_lock<M: Meaning>(
     pass: &mut Pass<M>,
     held: &mut CellList,
-    promised: usize,
+    writes: &WriteSet,
+    kept: u32,
 ) -> Result<(), AllocError>
     requires locks { held.old.reserved ≤ pass.old.places }
-    requires promised { promised ≤ held.old.reserved }
+    requires promised { promised writes.now kept ≤ held.old.reserved }
     ensures pass { pass.new ≡ record pass.old { places = pass.new.places } }
     ensures entries { held.new.entries ≡ held.old.entries }
     ensures locks { held.new.reserved ≤ pass.new.places }
     ensures kept { held.old.reserved ≤ held.new.reserved }
-    ensures ok { OnOk result (promised < held.new.reserved) }
+    ensures ok { OnOk result (promised writes.now kept < held.new.reserved) }
 {
-    if promised < held.reserved() {
+    let room = held.reserved();
+    let promised = writes.parent_len() + writes.child().len() + kept as usize;
+    if promised < room {
         return Ok(());
     }
     reserve_more_locks(pass, held, 1)

@@ -123,8 +123,12 @@ impl<'a, M: Meaning> Tx<'a, M> {
         ensures steps { GrewBy 2 (trail_of self.old.pass) (trail_of self.new.pass) }
         ensures sole { IsSole self.old.pass → IfErr result (λ stop. stop ≡ Memory) }
     {
-        let promised = self.writes.parent().len() + self.spare.locks as usize;
-        let Ok(()) = reserve_lock(&mut self.pass, &mut self.held, promised) else {
+        let Ok(()) = reserve_lock(
+            &mut self.pass,
+            &mut self.held,
+            &self.writes,
+            self.spare.locks,
+        ) else {
             return Err(Stop::Memory);
         };
         let table = self.table;
@@ -152,8 +156,12 @@ impl<'a, M: Meaning> Tx<'a, M> {
         ensures steps { GrewBy 3 (trail_of self.old.pass) (trail_of self.new.pass) }
         ensures sole { IsSole self.old.pass → IfErr result (λ stop. stop ≡ Memory) }
     {
-        let promised = self.writes.parent().len() + self.spare.locks as usize;
-        let Ok(()) = reserve_lock(&mut self.pass, &mut self.held, promised) else {
+        let Ok(()) = reserve_lock(
+            &mut self.pass,
+            &mut self.held,
+            &self.writes,
+            self.spare.locks,
+        ) else {
             return Err(Stop::Memory);
         };
         let Ok(()) = self.reads.reserve(1) else {

@@ -77,7 +77,7 @@ fn increment(
     match add_one(&mut tx, cell) {
         Ok(()) => Ok(commit_alone(tx)),
         Err(memory) => {
-            let _ = tx.abort();
+            tx.abort();
             Err(memory)
         }
     }

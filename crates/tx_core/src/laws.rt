@@ -26,7 +26,7 @@ impl<'a, M: Meaning> Tx<'a, M> {
         ensures sized { (cells : List ℕ) → length (after cells self.now.writes) ≡ length cells }
         ensures earlier { (cells : List ℕ) (more : Entries) → AllHold cells (self.now.observations ++ more) → AllHold cells self.now.observations }
     {
-        self.writes.parent();
+        self.writes.ascending_law();
     }
 
     /// The table of an attempt has 1 to 2^24 cells.

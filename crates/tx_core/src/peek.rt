@@ -50,7 +50,9 @@ impl<'a, M: Meaning> Tx<'a, M> {
         requires answered { IsCausedInAttempt self.old stop }
         ensures stopped { self.new ≡ record self.old { state = stopped_from self.old.state } }
     {
-        let _ = stop;
-        self.halt();
+        match stop {
+            Stop::Held { .. } | Stop::Newer { .. } => self.halt(),
+            Stop::Memory => unreachable!(),
+        }
     }
 }

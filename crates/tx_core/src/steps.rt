@@ -125,7 +125,7 @@ pub(crate) fn lock_cell<M: Meaning>(
     let Some(found) = free_version(word) else {
         return Err(stop_at(cell, word));
     };
-    if version < found {
+    if found > version {
         return Err(stop_at(cell, word));
     }
     match take_from(table, pass, cell, version, found) {

@@ -63,11 +63,11 @@ fn commit_one_read(
         return None;
     };
     let Ok(value) = tx.read(cell) else {
-        let _ = tx.abort();
+        tx.abort();
         return None;
     };
     let pass = tx.commit_reads();
-    let _ = pass.callers_held();
+    pass.callers_held();
     let record = pass.entries(0).last()?;
     Some((value, record.place, pass.seen()))
 }
@@ -133,7 +133,7 @@ fn a_held_cell_stops_the_reader_and_comes_back_free(rt: HostRuntime) -> Result<(
     assert_eq!(rt; stop, Stop::Held { cell: 0, owner: 1 });
     assert_eq!(rt; a.state(), TxState::Stopped);
     let mut first = a.abort();
-    let _ = b.abort();
+    b.abort();
     assert_eq!(rt; table.look_lock(&mut first, 0), 0);
     assert_eq!(rt; table.look_lock(&mut first, 1), 0);
     Ok(())
@@ -162,6 +162,31 @@ fn a_cell_only_written_may_have_become_newer(rt: HostRuntime) -> Result<(), Fail
     assert_eq!(rt; place, 2);
     assert_eq!(rt; table.look_lock(&mut first, 0), 4);
     assert_eq!(rt; table.look_value(&mut first, 0), 7);
+    Ok(())
+}
+
+// The second caller holds cell 1. The first one writes cells 2, 1 and 0, and is stopped at cell 1 with cell 0 locked and
+// cell 2 free.
+#[test]
+fn written_cells_are_locked_in_ascending_order(rt: HostRuntime) -> Result<(), Fail> {
+    let (table, mut first) = CellTable::open(rt.alloc(), Untold, &[0, 0, 0], 3)?;
+    let mut third = first.split(rt.alloc(), &table, 1)?;
+    let second = first.split(rt.alloc(), &table, 1)?;
+    let Ok(mut a) = Tx::begin(rt.alloc(), &table, first) else {
+        panic!(rt; "the first attempt begins");
+    };
+    let Ok(mut b) = Tx::begin(rt.alloc(), &table, second) else {
+        panic!(rt; "the second attempt begins");
+    };
+    a.write(2, 7).expect(&rt, "cell 2 is written");
+    a.write(1, 7).expect(&rt, "cell 1 is written");
+    a.write(0, 7).expect(&rt, "cell 0 is written");
+    assert_eq!(rt; b.hold(1), Ok(0));
+    assert_eq!(rt; a.lock_writes(), Err(Stop::Held { cell: 1, owner: 1 }));
+    assert_eq!(rt; table.look_lock(&mut third, 0), 1);
+    assert_eq!(rt; table.look_lock(&mut third, 2), 0);
+    a.abort();
+    b.abort();
     Ok(())
 }
 

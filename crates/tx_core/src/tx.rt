@@ -227,8 +227,12 @@ impl<'a, M: Meaning> Tx<'a, M> {
         ensures same { OnErr result (self.new ≡ record self.old { pass = self.new.pass }) }
         ensures pass { self.new.pass ≡ record self.old.pass { places = self.new.pass.places } }
     {
-        let promised = self.writes.parent().len() + self.spare.locks as usize;
-        let Ok(()) = reserve_lock(&mut self.pass, &mut self.held, promised) else {
+        let Ok(()) = reserve_lock(
+            &mut self.pass,
+            &mut self.held,
+            &self.writes,
+            self.spare.locks,
+        ) else {
             return Err(AllocError);
         };
         let Ok(()) = self.writes.put(cell, value) else {

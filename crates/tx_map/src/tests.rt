@@ -185,13 +185,13 @@ fn a_key_that_was_absent_and_is_put_since_refuses_the_commit(rt: HostRuntime) ->
     expect_get(&rt, &part, &mut tx, &directory, &mut keys, 7, None);
     let mut other = begin(&rt, &table, second);
     put(&rt, &part, &mut other, &directory, &mut second_keys, 7, 70);
-    let _ = commit(&rt, other, 1);
+    commit(&rt, other, 1);
     put(&rt, &part, &mut tx, &directory, &mut keys, 8, 80);
     let first = expect_refusal(&rt, tx, Stop::Newer { cell: 7, found: 1 });
     let mut tx = begin(&rt, &table, first);
     expect_get(&rt, &part, &mut tx, &directory, &mut keys, 7, Some(70));
     put(&rt, &part, &mut tx, &directory, &mut keys, 8, 80);
-    let _ = commit(&rt, tx, 3);
+    commit(&rt, tx, 3);
     Ok(())
 }
 
@@ -224,8 +224,8 @@ fn two_callers_put_two_keys_and_see_both(rt: HostRuntime) -> Result<(), Fail> {
         7,
         Some(70),
     );
-    let _ = commit_reads(&rt, tx, 2);
-    let _ = commit_reads(&rt, other, 2);
+    commit_reads(&rt, tx, 2);
+    commit_reads(&rt, other, 2);
     Ok(())
 }
 
@@ -248,7 +248,7 @@ fn an_attempt_sees_its_own_calls(rt: HostRuntime) -> Result<(), Fail> {
     expect_get(&rt, &part, &mut tx, &directory, &mut keys, 3, None);
     let full = part.put(&mut tx, &directory, &mut keys, 4, 40);
     assert_eq!(rt; full, Err(MapStop::KeysFull { capacity: 2 }));
-    let _ = tx.abort();
+    tx.abort();
     Ok(())
 }
 
@@ -264,7 +264,7 @@ fn a_map_without_cells_has_no_keys(rt: HostRuntime) -> Result<(), Fail> {
     let mut tx = begin(&rt, &table, pass);
     let full = part.get(&mut tx, &directory, &mut keys, 7);
     assert_eq!(rt; full, Err(MapStop::KeysFull { capacity: 0 }));
-    let _ = tx.abort();
+    tx.abort();
     Ok(())
 }
 
@@ -280,6 +280,6 @@ fn keys_below_the_capacity_have_their_own_cells(rt: HostRuntime) -> Result<(), F
     let mut tx = begin(&rt, &table, pass);
     expect_get(&rt, &part, &mut tx, &directory, &mut keys, 2, Some(8));
     expect_get(&rt, &part, &mut tx, &directory, &mut keys, 0, None);
-    let _ = tx.abort();
+    tx.abort();
     Ok(())
 }

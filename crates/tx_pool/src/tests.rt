@@ -91,13 +91,13 @@ fn an_attempt_fills_the_slot_that_it_emptied(rt: HostRuntime) -> Result<(), Fail
     assert_eq!(rt; watch.peek(0), Err(Stop::Held { cell: 0, owner: 0 }));
     assert_eq!(rt; watch.peek(1), Ok(0));
     assert_eq!(rt; watch.peek(2), Ok(0));
-    let _ = watch.abort();
+    watch.abort();
     expect_put(&rt, &part, &mut tx, 8, true);
     expect_put(&rt, &part, &mut tx, 7, true);
     expect_put(&rt, &part, &mut tx, 6, true);
     expect_put(&rt, &part, &mut tx, 5, false);
     expect_take(&rt, &part, &mut tx, 1, Some(7));
-    let _ = tx.abort();
+    tx.abort();
     Ok(())
 }
 
@@ -114,12 +114,12 @@ fn a_held_slot_stops_a_take_until_it_is_given_back(rt: HostRuntime) -> Result<()
     };
     expect_take(&rt, &part, &mut first, 0, Some(9));
     let back = expect_held(&rt, &part, second, 0);
-    let _ = first.abort();
+    first.abort();
     let Ok(mut again) = Tx::begin(rt.alloc(), &table, back) else {
         panic!(rt; "the second attempt begins again");
     };
     expect_take(&rt, &part, &mut again, 0, Some(9));
     assert!(rt; again.is_writing(), "the slot is emptied");
-    let _ = expect_commit(&rt, again, 1);
+    expect_commit(&rt, again, 1);
     Ok(())
 }

@@ -1,6 +1,6 @@
 use Rattle.std.proofs.Common.{◌+◌, arith}
-use Rattle.tx_core.proofs.Looks.{looks_trans, seen_grows}
-use Rattle.tx_core.proofs.Found.{grew_trans, grew_more}
+use Rattle.tx_core.specs.Facts.{looks_trans, grew_trans, grew_more}
+use Rattle.tx_core.proofs.Looks.{seen_grows}
 use Rattle.tx_core.proofs.Checking.{checking_step}
 use Rattle.tx_core.proofs.check.check.Goals as goal
 

@@ -1,5 +1,5 @@
 use Rattle.std.proofs.Common.{◌∙◌, length, subst}
-use Rattle.tx_core.proofs.Found.{grew_more}
+use Rattle.tx_core.specs.Facts.{grew_more}
 use Rattle.tx_core.proofs.Giving.{IsGiving, giving_cell, giving_step, giving_ends, no_more_listed}
 use Rattle.tx_core.proofs.gives.give_back_all.Goals as goal
 

@@ -3,7 +3,7 @@ use Rattle.cell_table.specs.Cells.{has}
 use Rattle.cell_table.specs.Rule.{cells_of}
 use Rattle.attempt_lists.specs.Cells.{cell_at}
 use Rattle.tx_core.specs.Tx.{Attempt}
-use Rattle.tx_core.proofs.Looks.{grows_trans}
+use Rattle.tx_core.specs.Facts.{grows_trans}
 use Rattle.tx_core.proofs.LateLocks.{word_there}
 use Rattle.tx_core.proofs.increment.commit_alone.Goals as goal
 

@@ -3,9 +3,9 @@ use Rattle.cell_table.specs.Pass.{IsHeld, trail_of}
 use Rattle.cell_table.specs.Rule.{callers_of}
 use Rattle.attempt_lists.specs.Cells.{cell_at}
 use Rattle.tx_core.specs.Causes.{CausedSince}
-use Rattle.tx_core.proofs.Found.{grew_more, length_grown, caused_earlier, twice_earlier, found_at_one}
+use Rattle.tx_core.proofs.Found.{found_at_one}
 use Rattle.tx_core.proofs.LateLocks.{IsLocking, locking_begins, locking_tries, locking_holds, counted_none, counted_trans, counted_to_stop, place_of, word_there}
-use Rattle.tx_core.specs.Facts.{held_still}
+use Rattle.tx_core.specs.Facts.{held_still, grew_more, length_grown, caused_earlier, twice_earlier}
 use Rattle.tx_core.proofs.locks.lock_all.Goals as goal
 use Rattle.tx_core.proofs.locks.lock_all.Goals.{After-lock_at}
 

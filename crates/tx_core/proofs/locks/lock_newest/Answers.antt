@@ -4,8 +4,9 @@ use Rattle.cell_table.specs.Rule.{callers_of}
 use Rattle.cell_table.specs.Steps.{Validated}
 use Rattle.cell_table.specs.Pass.{PassState, trail_of}
 use Rattle.tx_core.specs.Causes.{FoundTwice, IsCausedAt, FoundSince}
+use Rattle.tx_core.specs.Facts.{found_longer}
 use Rattle.tx_core.proofs.Looks.{looked_is, looks_by, has_all_validation}
-use Rattle.tx_core.proofs.Found.{found_by_load, found_by_exchange, found_longer}
+use Rattle.tx_core.proofs.Found.{found_by_load, found_by_exchange}
 use Rattle.tx_core.proofs.Stopped.{stopped_twice}
 use Rattle.tx_core.proofs.locks.lock_newest.Goals as goal
 

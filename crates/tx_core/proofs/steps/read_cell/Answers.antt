@@ -6,7 +6,8 @@ use Rattle.cell_table.specs.declared.view.Event.{Event}
 use Rattle.cell_table.specs.Steps.{Validated}
 use Rattle.cell_table.specs.Pass.{trail_of}
 use Rattle.tx_core.specs.Causes.{IsCausedAt}
-use Rattle.tx_core.proofs.Looks.{looked_is, valued_is, looks_by, looks_trans}
+use Rattle.tx_core.specs.Facts.{looks_trans}
+use Rattle.tx_core.proofs.Looks.{looked_is, valued_is, looks_by}
 use Rattle.tx_core.proofs.Newest.{newer_than}
 use Rattle.tx_core.proofs.Found.{found_by_load}
 use Rattle.tx_core.proofs.Stopped.{stopped_by}

@@ -15,7 +15,7 @@ invariant_of-self-2 g c =
     (omega (arith, a.spare_locks, c.in_ok-reserve_more_locks.ensures.ok))
     (omega (arith, a.spare_observations, c.in_ok-reserve.ensures.ok))
     (omega (arith, a.spare_writes, c.in_ok-reserve-2.ensures.ok))
-    (λ before. omega (arith, a.room before, c.in_ok-reserve_more_locks.ensures.ok, ap length c.in_ok-reserve-2.ensures.parent)) in (
+    (λ before. omega (arith, a.room before, c.in_ok-reserve_more_locks.ensures.ok, ap length c.reserve-2.ensures.parent, ap length c.reserve-2.ensures.child)) in (
       attempt_rooms _ _ _ _ c.self.inside.writes c.reserve-2.new.self _ _ c.reserve-2.ensures.parent c.reserve-2.ensures.child
           (attempt_reserves _ _ _ c.self.inside.reads c.reserve.new.self _ _ _ c.reserve.ensures.observations c.reserve.ensures.versions
           (attempt_widens _ _ c.self.inside.pass c.reserve_more_locks.new.pass _ _ c.self.inside.held c.reserve_more_locks.new.held _ c.self.invariant.0 c.in_ok-reserve_more_locks.ensures.pass c.in_ok-reserve_more_locks.ensures.entries)),
@@ -24,6 +24,6 @@ invariant_of-self-2 g c =
           (omega (arith, observations, a.spare_observations, c.in_ok-reserve.ensures.ok))
           (omega (arith, writes, a.spare_writes, c.in_ok-reserve-2.ensures.ok))
           c.in-Some.ensures.few
-          (λ before. omega (arith, locks, a.room before, c.in_ok-reserve_more_locks.ensures.ok, ap length c.in_ok-reserve-2.ensures.parent))
+          (λ before. omega (arith, locks, a.room before, c.in_ok-reserve_more_locks.ensures.ok, ap length c.reserve-2.ensures.parent, ap length c.reserve-2.ensures.child))
           (λ before. rw c.in-Some.ensures.more (twice_later c.self.inside.spare _ _ c.args.part c.args.value (a.twice before) c.in_ok-later.ensures.ok)),
     )

@@ -11,7 +11,7 @@ invariant_of-result g c = (
     spare_observations = omega arith;
     spare_writes = omega arith;
     few = (omega arith, omega arith, omega arith);
-    room = λ before. omega (arith, c.new-3.ensures.reserved, ap length c.new-2.ensures.parent);
+    room = λ before. omega (arith, c.new-3.ensures.reserved, ap length c.new-2.ensures.parent, ap length c.new-2.ensures.child);
     twice = λ before. twice_none c.new-5.result (λ part. rw c.new-5.ensures refl);
   },
 )

@@ -7,9 +7,9 @@ use Rattle.cell_table.specs.Pass.{PassState}
 use Rattle.attempt_lists.specs.Cells.{cell_at, word_of}
 use Rattle.tx_core.specs.Tx.{Attempt}
 use Rattle.tx_core.specs.Seen.{KnowsMore}
-use Rattle.tx_core.proofs.Looks.{observes_grows, stands_unheld, clocked_knows, knows_then_looks}
-use Rattle.tx_core.specs.Facts.{goes_knows}
-use Rattle.tx_core.proofs.Found.{grew_none, grew_step, grew_trans}
+use Rattle.tx_core.proofs.Looks.{stands_unheld, clocked_knows, knows_then_looks}
+use Rattle.tx_core.specs.Facts.{goes_knows, observes_grows, grew_none, grew_trans}
+use Rattle.tx_core.proofs.Found.{grew_step}
 use Rattle.tx_core.proofs.Calling.{steps_by}
 use Rattle.tx_core.proofs.AttemptFacts.{attempt_knows, attempt_commits}
 use Rattle.tx_core.proofs.Providing.{provided_places, provided_commits}

@@ -7,7 +7,8 @@ use Rattle.cell_table.specs.Steps.{Grows, Observes}
 use Rattle.cell_table.specs.Pass.{PassState}
 use Rattle.attempt_lists.specs.Cells.{cell_at, word_of}
 use Rattle.tx_core.specs.Tx.{Attempt}
-use Rattle.tx_core.proofs.Looks.{grows_trans, observes_grows, drawn_grows, stands_unheld}
+use Rattle.tx_core.specs.Facts.{grows_trans, observes_grows}
+use Rattle.tx_core.proofs.Looks.{drawn_grows, stands_unheld}
 use Rattle.tx_core.proofs.Providing.{provided_places, provided_commits}
 use Rattle.tx_core.proofs.AttemptFacts.{attempt_looks, attempt_commits, attempt_draws}
 use Rattle.tx_core.proofs.tx.Tx.draw_and_check.Goals.{In-Ok}

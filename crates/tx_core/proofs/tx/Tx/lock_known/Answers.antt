@@ -24,8 +24,8 @@ invariant_of-self-in-Ok-lock_seen g c =
           c.push_reserved.ensures.entries there (λ r w. not_both (rw (w, r) at some) refl) c.in-Ok-lock_seen.ensures.seen,
       provided_moves _ _ _ _ _ _ _ c.push_reserved.new.self _ _ _ c.self.invariant.1
           (omega (arith, c.push_reserved.ensures.reserved, c.in-Ok.ensures.locks, ap (λ (s : PassState _ _). s.places) c.in-Ok-lock_seen.ensures.takes.is))
-          (omega (arith, c.self.invariant.1.room before, c.in-Ok.ensures.ok, c.push_reserved.ensures.reserved, ap length c.parent.ensures.entries)) c.self.invariant.1.spare_observations c.self.invariant.1.spare_writes
-          (λ early. omega (arith, c.in-Ok.ensures.ok, c.push_reserved.ensures.reserved, ap length c.parent.ensures.entries)),
+          (omega (arith, c.self.invariant.1.room before, c.in-Ok.ensures.ok, c.push_reserved.ensures.reserved)) c.self.invariant.1.spare_observations c.self.invariant.1.spare_writes
+          (λ early. omega (arith, c.in-Ok.ensures.ok, c.push_reserved.ensures.reserved)),
     )
 
 pub invariant_of-self-in-Err : goal.invariant_of-self-in-Err

@@ -51,9 +51,9 @@ invariant_of-self-in-Ok-lock_cell g c =
           (seen_stands _ _ _ _ _ (stands_new g c)) (λ early. c.in-Ok-lock_cell.ensures.version.0),
       provided_moves _ _ _ c.push_reserved-in-Ok-lock_cell.new.self _ _ _ c.push_reserved.new.self _ _ _ c.self.invariant.1
           (omega (arith, c.push_reserved.ensures.reserved, c.in-Ok.ensures.locks, ap (λ (s : PassState _ _). s.places) t.is))
-          (omega (arith, c.self.invariant.1.room before, c.in-Ok.ensures.ok, c.push_reserved.ensures.reserved, ap length c.parent.ensures.entries))
+          (omega (arith, c.self.invariant.1.room before, c.in-Ok.ensures.ok, c.push_reserved.ensures.reserved))
           (omega (arith, c.self.invariant.1.spare_observations, c.in-Ok-reserve.ensures.ok, c.push_reserved-in-Ok-lock_cell.ensures.reserved)) c.self.invariant.1.spare_writes
-          (λ early. omega (arith, c.in-Ok.ensures.ok, c.push_reserved.ensures.reserved, ap length c.parent.ensures.entries)),
+          (λ early. omega (arith, c.in-Ok.ensures.ok, c.push_reserved.ensures.reserved)),
     )
 
 pub returns-in-Ok-lock_cell-clause-observes : goal.returns-in-Ok-lock_cell-clause-observes

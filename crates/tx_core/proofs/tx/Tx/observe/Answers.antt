@@ -4,10 +4,10 @@ use Rattle.cell_table.specs.Rule.{cells_of}
 use Rattle.cell_table.specs.Pass.{PassState}
 use Rattle.attempt_lists.specs.Cells.{Entries, word_at}
 use Rattle.tx_core.specs.Tx.{Attempt}
+use Rattle.tx_core.specs.Words.{known_last}
 use Rattle.tx_core.proofs.Looks.{not_both, seen_stands}
 use Rattle.tx_core.proofs.Providing.{provided_moves}
 use Rattle.tx_core.proofs.AttemptFacts.{attempt_looks, attempt_observes, attempt_reserves}
-use Rattle.tx_core.proofs.Parts.{known_last}
 use Rattle.tx_core.proofs.tx.Tx.observe.Goals as goal
 
 -- the observation stands at the attempt's version, and its cell isn't held

@@ -1,4 +1,4 @@
-use Rattle.std.proofs.Common.{◌<◌, List, ℕ, length, ap, subst, sym, ◌∙◌}
+use Rattle.std.proofs.Common.{◌<◌, length, ap, subst, sym, ◌∙◌}
 use Rattle.attempt_lists.specs.Cells.{cell_at}
 use Rattle.tx_core.proofs.Looks.{observes_of, each_from_places}
 use Rattle.tx_core.proofs.tx.Tx.one_moment_law.Goals as goal

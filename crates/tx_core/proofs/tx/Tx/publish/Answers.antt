@@ -1,8 +1,8 @@
 use Rattle.std.proofs.Common.{length, sym, ap, ◌∙◌}
 use Rattle.cell_table.specs.Pass.{PassState}
 use Rattle.tx_core.specs.Tx.{Attempt}
-use Rattle.tx_core.proofs.Looks.{each_from_places, grows_trans}
-use Rattle.tx_core.proofs.Found.{grew_trans}
+use Rattle.tx_core.specs.Facts.{grows_trans, grew_trans}
+use Rattle.tx_core.proofs.Looks.{each_from_places}
 use Rattle.tx_core.proofs.Storing.{writes_some}
 use Rattle.tx_core.proofs.tx.Tx.publish.Goals as goal
 

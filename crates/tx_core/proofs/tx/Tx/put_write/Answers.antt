@@ -16,5 +16,5 @@ invariant_of-self-2 g c =
           (ap (λ (l : Levels). l.parent) c.in-Ok-put.ensures.ok) (ap (λ (l : Levels). l.child) c.in-Ok-put.ensures.ok ∙ c.self.invariant.0.no_child) c.in-Ok-put.ensures.words,
       provided_moves _ _ _ _ _ c.put.new.self _ c.reserve_lock.new.held _ _ _ c.self.invariant.1 c.in-Ok.ensures.locks (omega (arith, c.self.invariant.1.spare_locks, c.in-Ok.ensures.kept)) c.self.invariant.1.spare_observations
           (omega (arith, c.self.invariant.1.spare_writes, ap (λ (l : Levels). l.reserved) c.in-Ok-put.ensures.ok))
-          (λ early. omega (arith, c.in-Ok-put.ensures.len, c.in-Ok.ensures.ok, ap length c.parent.ensures.entries)),
+          (λ early. omega (arith, c.in-Ok-put.ensures.len, c.in-Ok.ensures.ok, ap (λ (l : Levels). length l.child) c.in-Ok-put.ensures.ok)),
     )
