@@ -2,3 +2,4 @@ pub mod Index
 pub mod Kept
 pub mod Places
 pub mod PartLists
+pub mod Order

@@ -1,5 +1,5 @@
 -- Lists of cells, each with a word: what a cell has, and the two orders in which such lists are kept.
-use Rattle.std.specs.Prelude.{◌≡◌, ℕ, ◌<◌, ◌≤◌, ◌≢◌, List, length, nat_eq, slice_index_or, Option, fold}
+use Rattle.std.specs.Prelude.{◌≡◌, ℕ, ◌<◌, ◌≤◌, ◌≢◌, Bool, List, [], length, nat_eq, slice_index_or, Option, fold}
 use Rattle.std.specs.Ordering.{nat_cmp}
 use Rattle.std.specs.Map.{lookup}
 use Rattle.std.specs.BTreeMap.{insert_entry}
@@ -36,10 +36,20 @@ put entries cell word = insert_entry nat_cmp entries cell word
 abbrev pub laid_over : Entries → Entries → Entries
 laid_over lower upper = fold (λ entries e. put entries e.0 e.1) lower upper
 
+-- the entries in ascending order of cells; of two entries of one cell the last counts
+abbrev pub in_order : Entries → Entries
+in_order entries = laid_over [] entries
+
 -- entries, and for how many more there is room that is promised
 pub record Listed : Type 0 where
   pub entries : Entries
   pub reserved : ℕ
+
+-- entries in ascending order of cells, for how many more there is room that is promised, and whether they are kept in that order
+pub record Mapped : Type 0 where
+  pub entries : Entries
+  pub reserved : ℕ
+  pub sorted : Bool
 
 -- the entry at the place is of the cell
 pub record IsPlaceOf (entries : Entries) (cell place : ℕ) : Type 0 where

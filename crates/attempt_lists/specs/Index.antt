@@ -1,9 +1,9 @@
--- How a cell is found in a list: by a filter that most other cells don't pass, and by an index once the list is long.
+-- How a cell is found in a list: by a filter that most other cells don't pass, and in a long list by its order or by an index.
 use Rattle.std.specs.Prelude.{◌≡◌, ℕ, ◌+◌, ◌%◌, ◌<◌, ◌≤◌, Bool, true, false, length, nat_eq, Option, if◌then◌else◌, nat_le}
 use Rattle.std.specs.declared.option.Option.TheVariants.{Some}
 use Rattle.std.specs.Int.{bit_at}
 use Rattle.std.specs.HashMap.{get}
-use Rattle.attempt_lists.specs.Cells.{Entries, cell_at}
+use Rattle.attempt_lists.specs.Cells.{Entries, cell_at, IsAscending}
 use Rattle.attempt_lists.specs.declared.cell_index.CellIndex.{CellIndex}
 
 -- the cell's bit is set in the filter
@@ -18,9 +18,10 @@ AllPass filter entries = (i : ℕ) → i < length entries → Passes filter (cel
 abbrev pub IsIndex : (ℕ → Option ℕ) → Entries → Type 0
 IsIndex places entries = (i : ℕ) → i < length entries → places (cell_at entries i) ≡ Some i
 
--- the entries are few, or the index has them
+-- the entries are few, or they ascend, or the index has them
 pub record Indexes (index : CellIndex) (entries : Entries) : Type 0 where
-  pub few : index.active ≡ false → length entries ≤ 16
+  pub few : index.active ≡ false → index.ordered ≡ false → length entries ≤ 16
+  pub ascending : index.ordered ≡ true → IsAscending entries
   pub placed : index.active ≡ true → IsIndex (get nat_eq index.places) entries
 
 -- how many places of the index are promised where a list of this length has this many reserved

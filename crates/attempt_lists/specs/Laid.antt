@@ -15,7 +15,7 @@ use Rattle.attempt_lists.specs.Words.{word_absent, none_from_word}
 abbrev pub EachCell : (ℕ → Type 0) → Entries → Type 0
 EachCell P es = (i : ℕ) → i < length es → P (cell_at es i)
 
-each_cons : (P : ℕ → Type 0) (e : ℕ × ℕ) (es : Entries) → P e.0 → EachCell P es → EachCell P (e ∷ es)
+pub each_cons : (P : ℕ → Type 0) (e : ℕ × ℕ) (es : Entries) → P e.0 → EachCell P es → EachCell P (e ∷ es)
 each_cons P e es first rest zero lt = first
 each_cons P e es first rest (suc i) lt = rest i (omega arith)
 
@@ -28,10 +28,10 @@ absent_below es cell above = word_absent es cell (λ j lt same. omega (arith, ab
 pub ascending_tail : (e : ℕ × ℕ) (es : Entries) → IsAscending (e ∷ es) → IsAscending es
 ascending_tail e es ascending i j lt in_range = ascending (suc i) (suc j) (omega arith) (omega arith)
 
-above_head : (e : ℕ × ℕ) (es : Entries) → IsAscending (e ∷ es) → EachCell (λ c. e.0 < c) es
+pub above_head : (e : ℕ × ℕ) (es : Entries) → IsAscending (e ∷ es) → EachCell (λ c. e.0 < c) es
 above_head e es ascending i lt = ascending 0 (suc i) (omega arith) (omega arith)
 
-ascending_cons : (e : ℕ × ℕ) (es : Entries) → EachCell (λ c. e.0 < c) es → IsAscending es → IsAscending (e ∷ es)
+pub ascending_cons : (e : ℕ × ℕ) (es : Entries) → EachCell (λ c. e.0 < c) es → IsAscending es → IsAscending (e ∷ es)
 ascending_cons e es above ascending i zero lt in_range = absurd (omega arith)
 ascending_cons e es above ascending zero (suc j) lt in_range = above j (omega arith)
 ascending_cons e es above ascending (suc i) (suc j) lt in_range = ascending i j (omega arith) (omega arith)
@@ -83,6 +83,10 @@ length-put (e ∷ es) cell word ascending =
           rw (put_below e es cell word below, none) (omega arith)
       | inr from ↦ grind (arith, nat_tests, from, length-put es cell word (ascending_tail e es ascending))
     ]
+
+length-put_positive : (es : Entries) (cell word : ℕ) → 0 < length (put es cell word)
+length-put_positive [] cell word = omega arith
+length-put_positive (e ∷ es) cell word = grind (arith, nat_tests)
 
 -- what holds of each cell and of the new one holds of each cell after the put
 pub each_put : (P : ℕ → Type 0) (es : Entries) (cell word : ℕ) → EachCell P es → P cell → EachCell P (put es cell word)
@@ -174,6 +178,13 @@ length-laid_over lower (e ∷ es) ascending =
     let rest = length-laid_over (put lower e.0 e.1) es (ascending_put lower e.0 e.1 ascending) in
     let first = length-put lower e.0 e.1 ascending in
     (grind (arith, rest.0, first), grind (arith, rest.1, first))
+
+-- it is empty where both are
+pub nothing_laid_over : (lower upper : Entries) → IsAscending lower → length (laid_over lower upper) ≡ 0 → length lower + length upper ≡ 0
+nothing_laid_over lower [] ascending none = omega (arith, none)
+nothing_laid_over lower (e ∷ es) ascending none =
+    let rest = length-laid_over (put lower e.0 e.1) es (ascending_put lower e.0 e.1 ascending) in
+    absurd (omega (arith, rest.0, length-put_positive lower e.0 e.1, none))
 
 -- what holds of the cells of both lists holds of its cells
 pub keys-laid_over : (P : ℕ → Type 0) (lower upper : Entries) → All P (keys_of lower) → All P (keys_of upper) → All P (keys_of (laid_over lower upper))

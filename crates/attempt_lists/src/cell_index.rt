@@ -1,8 +1,8 @@
-//! Where the cells of a list stand: found by a scan while they are few, by a hash map above.
-ghost use Rattle.std.specs.Prelude.{◌≡◌, ℕ, ◌+◌, ◌^◌, ◌<◌, ◌≤◌, true, false, [], ◌∷◌, ◌++◌, length, nat_eq, Some, None, MatchOption, if◌then◌else◌, IsTrue, ◌↔◌, OnOk};
+//! Where the cells of a list stand: found by a scan while they are few, above that by a hash map, or by their order once they ascend.
+ghost use Rattle.std.specs.Prelude.{◌≡◌, ℕ, ◌+◌, ◌^◌, ◌<◌, ◌≤◌, true, false, [], ◌∷◌, ◌++◌, length, nat_eq, Some, None, MatchOption, if◌then◌else◌, IsTrue, ◌↔◌, OnOk, IfOk, IfErr};
 ghost use Rattle.std.specs.List.{position};
-ghost use Rattle.std.specs.HashMap.{get, spare};
-ghost use Rattle.attempt_lists.specs.Cells.{word_at, word_of, cell_at, NoCellTwice};
+ghost use Rattle.std.specs.HashMap.{get, spare, hash_map_len};
+ghost use Rattle.attempt_lists.specs.Cells.{word_at, word_of, cell_at, NoCellTwice, IsAscending, IsPlaceOf, IsGapFor};
 ghost use Rattle.attempt_lists.specs.Index.{IsIndex, Indexes, owed};
 
 use std::alloc::{AllocError, Global};
@@ -11,22 +11,25 @@ use std::collections::HashMap;
 /// The greatest number of cells that are looked through one by one.
 const SCANNED: usize = 16;
 
-/// An index of the cells of a list. It is empty while these are few, and has them all from then on until it is cleared.
+/// An index of the cells of a list. It is empty while these are few or ascend, and has them all else.
 ///
 /// A cell that left the list may keep its place here, so a place counts only where the cell stands there.
 #[derive(Drop)]
 pub(crate) struct CellIndex {
     places: HashMap<u32, usize>,
     active: bool,
+    ordered: bool,
 }
 
 impl CellIndex {
     pub(crate) fn new(alloc: Global) -> Self
-        ensures { result.active ≡ false }
+        ensures active { result.active ≡ false }
+        ensures ordered { result.ordered ≡ false }
     {
         Self {
             places: HashMap::new(alloc),
             active: false,
+            ordered: false,
         }
     }
 
@@ -38,6 +41,8 @@ impl CellIndex {
     {
         if self.active {
             self.look_up(entries, cell)
+        } else if self.ordered {
+            search(entries, cell)
         } else {
             scan(entries, cell)
         }
@@ -65,6 +70,7 @@ impl CellIndex {
     pub(crate) fn reserve(&mut self, len: usize, reserved: usize) -> Result<(), AllocError>
         requires fits { len + reserved < 2 ^ 64 }
         ensures active { self.new.active ≡ self.old.active }
+        ensures ordered { self.new.ordered ≡ self.old.ordered }
         ensures places { (q : ℕ) → get nat_eq self.new.places q ≡ get nat_eq self.old.places q }
         ensures room { OnOk result (owed self.new.active len reserved ≤ spare self.new.places) }
         ensures kept { spare self.old.places ≤ spare self.new.places }
@@ -86,9 +92,10 @@ impl CellIndex {
         ensures indexes { (word : ℕ) → Indexes self.new (entries.now ++ (cell, word) ∷ []) }
         ensures room { (more : ℕ) → owed self.old.active (length entries.now) (more + 1) ≤ spare self.old.places → owed self.new.active (length entries.now + 1) more ≤ spare self.new.places }
     {
+        self.ordered = false;
         if self.active {
             self.add(cell, entries.len());
-        } else if entries.len() == SCANNED {
+        } else if entries.len() >= SCANNED {
             self.activate(entries);
             self.add(cell, entries.len());
         }
@@ -98,6 +105,7 @@ impl CellIndex {
     fn add(&mut self, cell: u32, place: usize)
         requires room { 0 < spare self.old.places }
         ensures active { self.new.active ≡ self.old.active }
+        ensures ordered { self.new.ordered ≡ self.old.ordered }
         ensures places { (q : ℕ) → get nat_eq self.new.places q ≡ (if nat_eq cell q then Some place else get nat_eq self.old.places q) }
         ensures room { spare self.old.places ≤ spare self.new.places + 1 }
     {
@@ -111,6 +119,7 @@ impl CellIndex {
         requires once { NoCellTwice entries.now }
         requires room { length entries.now ≤ spare self.old.places }
         ensures active { self.new.active ≡ true }
+        ensures ordered { self.new.ordered ≡ self.old.ordered }
         ensures index { IsIndex (get nat_eq self.new.places) entries.now }
         ensures room { spare self.old.places ≤ spare self.new.places + length entries.now }
     {
@@ -120,15 +129,29 @@ impl CellIndex {
         self.active = true;
     }
 
+    /// The list is put in ascending order next, and its cells are found by that until one is added.
+    pub(crate) fn order(&mut self)
+        ensures active { self.new.active ≡ false }
+        ensures ordered { self.new.ordered ≡ true }
+        ensures kept { spare self.old.places ≤ spare self.new.places }
+        ensures freed { self.old.active ≡ true → hash_map_len self.old.places + spare self.old.places ≤ spare self.new.places }
+    {
+        self.clear();
+        self.ordered = true;
+    }
+
     /// No cell has a place.
     pub(crate) fn clear(&mut self)
         ensures active { self.new.active ≡ false }
+        ensures ordered { self.new.ordered ≡ false }
         ensures kept { spare self.old.places ≤ spare self.new.places }
+        ensures freed { self.old.active ≡ true → hash_map_len self.old.places + spare self.old.places ≤ spare self.new.places }
     {
         if self.active {
             self.places.clear();
             self.active = false;
         }
+        self.ordered = false;
     }
 }
 
@@ -137,6 +160,26 @@ fn scan(entries: &[(u32, u64)], cell: u32) -> Option<usize>
     ensures { result ≡ position (λ e. nat_eq e.0 cell) entries.now }
 {
     entries.iter().position(|e| e.0 == cell)
+}
+
+// The place by binary search among ascending cells.
+fn search(entries: &[(u32, u64)], cell: u32) -> Option<usize>
+    requires ascending { IsAscending entries.now }
+    ensures { MatchOption result (word_at entries.now cell ≡ None) (λ i. (i < length entries.now) × (cell_at entries.now i ≡ cell) × (word_at entries.now cell ≡ Some (word_of entries.now i))) }
+{
+    match find(entries, cell) {
+        Ok(place) => Some(place),
+        Err(_) => None,
+    }
+}
+
+// Where the cell is among ascending ones, or where it would go.
+fn find(entries: &[(u32, u64)], cell: u32) -> Result<usize, usize>
+    requires ascending { IsAscending entries.now }
+    ensures found { IfOk result (IsPlaceOf entries.now cell) }
+    ensures absent { IfErr result (IsGapFor entries.now cell) }
+{
+    entries.binary_search_by_key(&cell, |&(c, _)| c)
 }
 
 // Whether the entry at the place is the cell's.

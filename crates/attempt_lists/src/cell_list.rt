@@ -1,6 +1,6 @@
 //! Cells in the order in which they came, with an index by cell.
-ghost use Rattle.std.specs.Prelude.{◌≡◌, ℕ, ◌+◌, ◌<◌, ◌≤◌, [], ◌∷◌, ◌++◌, length, take, Some, IfSome, OnOk, OnErr, IfSome, MatchOption};
-ghost use Rattle.attempt_lists.specs.Cells.{word_at, word_of, cell_at, NoCellTwice, Listed};
+ghost use Rattle.std.specs.Prelude.{◌≡◌, ℕ, ◌+◌, ◌<◌, ◌≤◌, [], ◌∷◌, ◌++◌, length, take, slice_set, Some, OnOk, OnErr, IfSome, MatchOption};
+ghost use Rattle.attempt_lists.specs.Cells.{word_at, word_of, cell_at, in_order, IsAscending, NoCellTwice, Listed};
 
 use crate::cell_index::CellIndex;
 use crate::filter::{passes, with_cell};
@@ -133,6 +133,26 @@ impl CellList {
         self.filter = with_cell(self.filter, cell);
         self.entries.push_reserved((cell, word));
         self.reserved -= 1;
+    }
+
+    /// Gives the cell at a place another word. Takes no memory.
+    pub(crate) fn set_word(&mut self, place: usize, word: u64)
+        requires { place < length self.old.entries }
+        ensures entries { self.new.entries ≡ slice_set self.old.entries place (cell_at self.old.entries place, word) }
+        ensures reserved { self.new.reserved ≡ self.old.reserved }
+    {
+        let (cell, _) = self.entries[place];
+        self.entries[place] = (cell, word);
+    }
+
+    /// Puts the cells in ascending order. Takes no memory.
+    pub fn sort(&mut self)
+        ensures entries { self.new.entries ≡ in_order self.old.entries }
+        ensures ascending { IsAscending self.new.entries }
+        ensures reserved { self.new.reserved ≡ self.old.reserved }
+    {
+        self.index.order();
+        self.entries.sort_unstable_by_key(|&(cell, _)| cell);
     }
 
     /// Takes the last cell out. Takes no memory.

@@ -1,32 +1,30 @@
 //! Cells in ascending order, each with a word.
-ghost use Rattle.std.specs.Prelude.{◌≡◌, ℕ, ◌+◌, ◌<◌, ◌≤◌, [], ◌∷◌, ◌++◌, length, nat_eq, Some, IsSome, IsNone, is_some, IsOk, IsErr, is_ok, IsTrue, if◌then◌else◌, OnOk, OnErr, IfOk, IfErr};
-ghost use Rattle.attempt_lists.specs.Cells.{word_at, put, IsAscending, Listed, IsPlaceOf, IsGapFor};
+ghost use Rattle.std.specs.Prelude.{◌≡◌, ℕ, ◌+◌, ◌<◌, ◌≤◌, true, [], ◌∷◌, ◌++◌, length, nat_eq, Some, None, IsSome, IsNone, is_some, IsOk, if◌then◌else◌, OnOk, OnErr, MatchOption};
+ghost use Rattle.attempt_lists.specs.Cells.{word_at, cell_at, put, in_order, IsAscending, NoCellTwice};
 
-use crate::filter::{passes, with_cell};
+use crate::cell_list::CellList;
 use std::alloc::{AllocError, Global};
 use std::marker::Model;
 
 /// Cells in ascending order, none twice, each with a word.
 ///
-/// A cell is found by binary search, and one above all others without. Places are reserved by number, and a call that fills one takes no memory.
+/// They are kept in the order in which they came, and sorted where they are asked for in theirs. A cell is found in constant
+/// time, or in logarithmic time where they are sorted. Places are reserved by number, and a call that fills one takes no memory.
 #[derive(Drop)]
 pub struct CellMap {
-    entries: Vec<(u32, u64)>,
-    filter: u64,
-    reserved: usize,
+    list: CellList,
+    sorted: bool,
 }
 
 impl Model for CellMap {
-    ghost use Rattle.std.specs.Prelude.{◌+◌, ◌≤◌};
-    ghost use Rattle.std.specs.Vec.{vec_len, vec_capacity};
-    ghost use Rattle.attempt_lists.specs.Cells.{Listed, IsAscending};
-    ghost use Rattle.attempt_lists.specs.Index.{AllPass};
+    ghost use Rattle.std.specs.Prelude.{◌≡◌, true};
+    ghost use Rattle.attempt_lists.specs.Cells.{Mapped, in_order, IsAscending};
 
-    ghost Value = { Listed };
+    ghost Value = { Mapped };
 
-    ghost view = { λ a. record { entries = a.entries.items; reserved = a.reserved } };
+    ghost view = { λ a. record { entries = in_order a.list.entries; reserved = a.list.reserved; sorted = a.sorted } };
 
-    ghost invariant = { λ a. IsAscending a.entries.items × AllPass a.filter a.entries.items × (vec_len a.entries + a.reserved ≤ vec_capacity a.entries) };
+    ghost invariant = { λ a. a.sorted ≡ true → IsAscending a.list.entries };
 }
 
 impl CellMap {
@@ -34,11 +32,11 @@ impl CellMap {
     pub fn new(alloc: Global) -> Self
         ensures empty { result.entries ≡ [] }
         ensures reserved { result.reserved ≡ 0 }
+        ensures sorted { result.sorted ≡ true }
     {
         Self {
-            entries: Vec::new(alloc),
-            filter: 0,
-            reserved: 0,
+            list: CellList::new(alloc),
+            sorted: true,
         }
     }
 
@@ -46,65 +44,77 @@ impl CellMap {
     pub fn len(&self) -> usize
         ensures { result ≡ length self.now.entries }
     {
-        self.entries.len()
+        self.list.once_law();
+        self.list.len()
     }
 
     /// The word of a cell, or `None` where it has none.
     pub fn get(&self, cell: u32) -> Option<u64>
         ensures { result ≡ word_at self.now.entries cell }
     {
-        if passes(self.filter, cell) {
-            self.find(cell)
-        } else {
-            None
-        }
+        self.list.once_law();
+        self.list.get(cell)
     }
 
-    // The same for a cell that passes the filter.
-    fn find(&self, cell: u32) -> Option<u64>
-        ensures { result ≡ word_at self.now.entries cell }
+    /// The cells are always in ascending order.
+    pub fn ascending_law(&self)
+        ensures { IsAscending self.now.entries }
     {
-        match self.search(cell) {
-            Ok(place) => Some(self.entries[place].1),
-            Err(_) => None,
+        self.list.once_law();
+    }
+
+    /// Sorts the cells where they aren't sorted. Takes no memory.
+    pub fn sort(&mut self)
+        ensures entries { self.new.entries ≡ self.old.entries }
+        ensures reserved { self.new.reserved ≡ self.old.reserved }
+        ensures sorted { self.new.sorted ≡ true }
+    {
+        if !self.sorted {
+            self.list.sort();
+            self.sorted = true;
         }
     }
 
     /// The cells with their words, in ascending order of cells.
     pub fn as_slice(&self) -> &[(u32, u64)]
+        requires sorted { self.now.sorted ≡ true }
         ensures entries { result.now ≡ self.now.entries }
         ensures ascending { IsAscending self.now.entries }
     {
-        &self.entries
+        self.list.as_slice()
+    }
+
+    /// The cells with their words, in any order.
+    pub(crate) fn unsorted(&self) -> &[(u32, u64)]
+        ensures entries { in_order result.now ≡ self.now.entries }
+        ensures once { NoCellTwice result.now }
+        ensures len { length result.now ≡ length self.now.entries }
+    {
+        self.list.as_slice()
     }
 
     /// Reserves places for `more` cells beside those reserved already.
     pub fn reserve(&mut self, more: usize) -> Result<(), AllocError>
         ensures entries { self.new.entries ≡ self.old.entries }
+        ensures sorted { self.new.sorted ≡ self.old.sorted }
         ensures ok { OnOk result (self.new.reserved ≡ self.old.reserved + more) }
         ensures err { OnErr result (self.new.reserved ≡ self.old.reserved) }
     {
-        let Some(reserved) = self.reserved.checked_add(more) else {
-            return Err(AllocError);
-        };
-        self.entries.reserve(reserved)?;
-        self.reserved = reserved;
-        Ok(())
+        self.list.reserve(more)
     }
 
     /// Gives a cell its word. The reserved places stay reserved. Takes no memory where the cell has a word.
     pub fn put(&mut self, cell: u32, word: u64) -> Result<(), AllocError>
-        ensures ok { OnOk result (self.new ≡ record self.old { entries = put self.old.entries cell word }) }
+        ensures ok { OnOk result (self.new ≡ record self.old { entries = put self.old.entries cell word; sorted = self.new.sorted }) }
         ensures words { OnOk result ((q : ℕ) → word_at self.new.entries q ≡ (if nat_eq cell q then Some word else word_at self.old.entries q)) }
         ensures len { length self.new.entries ≤ length self.old.entries + 1 }
         ensures err { OnErr result (self.new ≡ self.old) }
         ensures overwrite_succeeds { IsSome (word_at self.old.entries cell) → IsOk result }
     {
-        let place = self.search(cell);
-        if place.is_err() {
-            self.reserve(1)?;
-        }
-        self.put_at(place, cell, word);
+        self.list.once_law();
+        let place = self.list.place(cell);
+        make_room(&mut self.list, place)?;
+        self.sorted = put_at(&mut self.list, self.sorted, place, cell, word);
         Ok(())
     }
 
@@ -116,77 +126,75 @@ impl CellMap {
         ensures len { length self.new.entries ≡ length self.old.entries + (if is_some (word_at self.old.entries cell) then 0 else 1) }
         ensures reserved { self.new.reserved + (if is_some (word_at self.old.entries cell) then 0 else 1) ≡ self.old.reserved }
     {
-        let place = self.search(cell);
-        self.put_at(place, cell, word);
+        self.list.once_law();
+        let place = self.list.place(cell);
+        self.sorted = put_at(&mut self.list, self.sorted, place, cell, word);
     }
 
-    /// Takes all cells out. Takes no memory.
+    /// Takes all cells out and takes back what was reserved, and keeps the room for the next ones. Takes no memory.
     pub fn clear(&mut self)
         ensures entries { self.new.entries ≡ [] }
-        ensures reserved { self.new.reserved ≡ self.old.reserved }
+        ensures reserved { self.new.reserved ≡ 0 }
+        ensures sorted { self.new.sorted ≡ true }
     {
-        self.entries.clear();
-        self.filter = 0;
+        self.list.clear();
+        self.sorted = true;
     }
 
-    /// The cells with their words, in ascending order of cells.
-    pub fn into_entries(self) -> Vec<(u32, u64)>
+    /// The cells with their words, in ascending order of cells. Takes no memory.
+    pub fn into_entries(mut self) -> Vec<(u32, u64)>
         ensures entries { result.items ≡ self.entries }
         ensures ascending { IsAscending self.entries }
     {
-        self.entries
+        self.sort();
+        self.list.into_entries()
     }
+}
 
-    // Where the cell is, or where it would go.
-    fn search(&self, cell: u32) -> Result<usize, usize>
-        ensures found { IfOk result (IsPlaceOf self.now.entries cell) }
-        ensures absent { IfErr result (IsGapFor self.now.entries cell) }
-        ensures variant { is_ok result ≡ is_some (word_at self.now.entries cell) }
-    {
-        if self.ends_below(cell) {
-            return Err(self.entries.len());
+// Room for the word of a cell that has the place, or none yet.
+fn make_room(list: &mut CellList, place: Option<usize>) -> Result<(), AllocError>
+    ensures entries { list.new.entries ≡ list.old.entries }
+    ensures ok { OnOk result (list.new.reserved ≡ list.old.reserved + (if is_some place then 0 else 1)) }
+    ensures err { OnErr result (list.new.reserved ≡ list.old.reserved) }
+    ensures succeeds { IsSome place → IsOk result }
+{
+    match place {
+        Some(_) => Ok(()),
+        None => list.reserve(1),
+    }
+}
+
+// Gives the cell its word, where a look for it ended. It answers whether the cells are sorted, if they were before.
+fn put_at(list: &mut CellList, sorted: bool, place: Option<usize>, cell: u32, word: u64) -> bool
+    requires once { NoCellTwice list.old.entries }
+    requires place { MatchOption place (word_at list.old.entries cell ≡ None) (λ i. (i < length list.old.entries) × (cell_at list.old.entries i ≡ cell)) }
+    requires room { place ≡ None → 0 < list.old.reserved }
+    ensures entries { in_order list.new.entries ≡ put (in_order list.old.entries) cell word }
+    ensures sorted { (sorted ≡ true → IsAscending list.old.entries) → result ≡ true → IsAscending list.new.entries }
+    ensures reserved { list.new.reserved + (if is_some place then 0 else 1) ≡ list.old.reserved }
+{
+    match place {
+        Some(place) => {
+            list.set_word(place, word);
+            sorted
         }
-        self.search_within(cell)
-    }
-
-    // Whether the cell goes to the end.
-    fn ends_below(&self, cell: u32) -> bool
-        ensures { IsTrue result → IsGapFor self.now.entries cell (length self.now.entries) }
-    {
-        match self.entries.last() {
-            Some(last) => last.0 < cell,
-            None => true,
+        None => {
+            let sorted = stays_sorted(list, sorted, cell);
+            list.push_reserved(cell, word);
+            sorted
         }
     }
+}
 
-    // The same for a cell that may stand anywhere.
-    fn search_within(&self, cell: u32) -> Result<usize, usize>
-        ensures found { IfOk result (IsPlaceOf self.now.entries cell) }
-        ensures absent { IfErr result (IsGapFor self.now.entries cell) }
-        ensures variant { is_ok result ≡ is_some (word_at self.now.entries cell) }
-    {
-        self.entries.binary_search_by_key(&cell, |&(c, _)| c)
+// Whether the cells are sorted and the cell is above the last one.
+fn stays_sorted(list: &CellList, sorted: bool, cell: u32) -> bool
+    ensures { (sorted ≡ true → IsAscending list.now.entries) → result ≡ true → (word : ℕ) → IsAscending (list.now.entries ++ (cell, word) ∷ []) }
+{
+    if !sorted {
+        return false;
     }
-
-    // Gives the cell its word, where a search for it ended.
-    fn put_at(&mut self, place: Result<usize, usize>, cell: u32, word: u64)
-        requires found { IfOk place (IsPlaceOf self.old.entries cell) }
-        requires absent { IfErr place (IsGapFor self.old.entries cell) }
-        requires room { IsErr place → 0 < self.old.reserved }
-        ensures entries { self.new.entries ≡ put self.old.entries cell word }
-        ensures words { (q : ℕ) → word_at self.new.entries q ≡ (if nat_eq cell q then Some word else word_at self.old.entries q) }
-        ensures len { length self.new.entries ≡ length self.old.entries + (if is_ok place then 0 else 1) }
-        ensures reserved { self.new.reserved + (if is_ok place then 0 else 1) ≡ self.old.reserved }
-    {
-        match place {
-            Ok(place) => self.entries[place] = (cell, word),
-            Err(place) => {
-                self.filter = with_cell(self.filter, cell);
-                self.reserved -= 1;
-                let Ok(()) = self.entries.insert(place, (cell, word)) else {
-                    unreachable!()
-                };
-            }
-        }
+    match list.as_slice().last() {
+        Some(last) => last.0 < cell,
+        None => true,
     }
 }

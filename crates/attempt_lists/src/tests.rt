@@ -63,6 +63,7 @@ fn reserved_places_are_filled_without_memory(rt: HostRuntime) -> Result<(), Fail
     writes.put(6, 1)?;
     writes.put_reserved(2, 7);
     writes.put_reserved(6, 8);
+    writes.sort();
     assert_eq!(rt; writes.parent(), [(2, 7), (6, 8)].as_slice());
     Ok(())
 }
@@ -155,13 +156,41 @@ fn a_child_is_merged_or_dropped(rt: HostRuntime) -> Result<(), Fail> {
     assert_eq!(rt; (writes.get(4), writes.get(5)), (Some(1), Some(1)));
     writes.put_in_child(4, 3)?;
     writes.put_in_child(10_000, 4)?;
-    assert_eq!(rt; (writes.parent().len(), writes.child().len()), (10_000, 2));
+    assert_eq!(rt; (writes.parent_len(), writes.child_len()), (10_000, 2));
     writes.merge_child();
     assert_eq!(rt; (writes.get(4), writes.get(10_000)), (Some(3), Some(4)));
     assert!(rt; !writes.is_empty());
     let written = writes.into_parent();
     assert_eq!(rt; written.len(), 10_001);
     assert!(rt; written.iter().enumerate().all(|(i, e)| e.0 as usize == i));
+    Ok(())
+}
+
+// Sorted writes are found, and those that come after are sorted with them.
+#[test]
+fn writes_are_sorted_when_asked_for(rt: HostRuntime) -> Result<(), Fail> {
+    let mut writes = write_all(rt.alloc())?;
+    writes.drop_child();
+    writes.sort();
+    writes.put(20_000, 1)?;
+    writes.put(10_500, 2)?;
+    writes.put(7, 3)?;
+    assert_eq!(rt;
+        (
+            writes.get(7),
+            writes.get(10_500),
+            writes.get(20_000),
+            writes.get(10_001)
+        ),
+        (Some(3), Some(2), Some(1), None)
+    );
+    writes.sort();
+    assert_eq!(rt; writes.get(7), Some(3));
+    let written = writes.parent();
+    assert_eq!(rt; written.len(), 10_002);
+    assert_eq!(rt; written.get(7), Some(&(7, 3)));
+    assert_eq!(rt; written.get(10_000), Some(&(10_500, 2)));
+    assert_eq!(rt; written.last(), Some(&(20_000, 1)));
     Ok(())
 }
 

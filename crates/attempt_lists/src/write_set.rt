@@ -1,7 +1,7 @@
 //! What an attempt will write.
-ghost use Rattle.std.specs.Prelude.{◌≡◌, ℕ, ◌+◌, ◌<◌, ◌≤◌, [], length, nat_eq, Some, IsSome, IsNone, is_some, IsOk, if◌then◌else◌, IsTrue, ◌↔◌, OnOk, OnErr};
+ghost use Rattle.std.specs.Prelude.{◌≡◌, ℕ, ◌+◌, ◌<◌, ◌≤◌, true, [], length, nat_eq, Some, IsSome, IsNone, is_some, IsOk, if◌then◌else◌, IsTrue, ◌↔◌, OnOk, OnErr};
 ghost use Rattle.attempt_lists.specs.Cells.{word_at, put, laid_over, IsAscending, Listed};
-ghost use Rattle.attempt_lists.specs.Levels.{Levels, written};
+ghost use Rattle.attempt_lists.specs.Levels.{Levels, written, merged};
 
 use crate::cell_map::CellMap;
 use std::alloc::{AllocError, Global};
@@ -10,7 +10,7 @@ use std::marker::Model;
 /// What an attempt will write to cells, at two levels: its own writes, and over them those of its open child.
 ///
 /// A child's writes are merged into the parent's, or dropped, without memory. A write of the child never changes one
-/// of the parent before it is merged.
+/// of the parent before it is merged. The parent's writes are sorted once, by `sort`, before they are asked for in order.
 #[derive(Drop)]
 pub struct WriteSet {
     parent: CellMap,
@@ -24,7 +24,7 @@ impl Model for WriteSet {
 
     ghost Value = { Levels };
 
-    ghost view = { λ a. record { parent = a.parent.entries; child = a.child.entries; reserved = a.reserved } };
+    ghost view = { λ a. record { parent = a.parent.entries; child = a.child.entries; reserved = a.reserved; sorted = a.parent.sorted } };
 
     // Each write of the child has a place among the parent's.
     ghost invariant = { λ a. a.reserved + length a.child.entries ≤ a.parent.reserved };
@@ -36,6 +36,7 @@ impl WriteSet {
         ensures parent { result.parent ≡ [] }
         ensures child { result.child ≡ [] }
         ensures reserved { result.reserved ≡ 0 }
+        ensures sorted { result.sorted ≡ true }
     {
         Self {
             parent: CellMap::new(alloc),
@@ -46,8 +47,10 @@ impl WriteSet {
 
     /// The word written to a cell: that of the child where it wrote the cell, else that of the parent.
     pub fn get(&self, cell: u32) -> Option<u64>
-        ensures { result ≡ written self.now cell }
+        ensures levels { result ≡ written self.now cell }
+        ensures merged { result ≡ word_at (merged self.now) cell }
     {
+        self.ascending_law();
         match self.child.get(cell) {
             Some(word) => Some(word),
             None => self.parent.get(cell),
@@ -56,25 +59,30 @@ impl WriteSet {
 
     /// Whether no cell is written at either level.
     pub fn is_empty(&self) -> bool
-        ensures { IsTrue result ↔ (length self.now.parent + length self.now.child ≡ 0) }
+        ensures levels { IsTrue result ↔ (length self.now.parent + length self.now.child ≡ 0) }
+        ensures merged { IsTrue result ↔ (length (merged self.now) ≡ 0) }
     {
+        self.ascending_law();
         self.parent.len() == 0 && self.child.len() == 0
     }
 
-    /// The parent's writes, in ascending order of cells.
+    /// Sorts the parent's writes where they aren't sorted. Takes no memory.
+    pub fn sort(&mut self)
+        ensures parent { self.new.parent ≡ self.old.parent }
+        ensures child { self.new.child ≡ self.old.child }
+        ensures reserved { self.new.reserved ≡ self.old.reserved }
+        ensures sorted { self.new.sorted ≡ true }
+    {
+        self.parent.sort();
+    }
+
+    /// The parent's writes, in ascending order of cells, once they are sorted.
     pub fn parent(&self) -> &[(u32, u64)]
+        requires sorted { self.now.sorted ≡ true }
         ensures entries { result.now ≡ self.now.parent }
         ensures ascending { IsAscending self.now.parent }
     {
         self.parent.as_slice()
-    }
-
-    /// The open child's writes, in ascending order of cells.
-    pub fn child(&self) -> &[(u32, u64)]
-        ensures entries { result.now ≡ self.now.child }
-        ensures ascending { IsAscending self.now.child }
-    {
-        self.child.as_slice()
     }
 
     /// The writes of each level are always in ascending order of cells.
@@ -82,8 +90,15 @@ impl WriteSet {
         ensures parent { IsAscending self.now.parent }
         ensures child { IsAscending self.now.child }
     {
-        self.parent();
-        self.child();
+        self.parent.ascending_law();
+        self.child.ascending_law();
+    }
+
+    /// How many cells the open child writes.
+    pub fn child_len(&self) -> usize
+        ensures { result ≡ length self.now.child }
+    {
+        self.child.len()
     }
 
     /// How many cells the parent writes.
@@ -111,7 +126,7 @@ impl WriteSet {
     /// Writes a cell at the parent's level. The reserved places stay reserved.
     pub fn put(&mut self, cell: u32, word: u64) -> Result<(), AllocError>
         requires no_child { self.old.child ≡ [] }
-        ensures ok { OnOk result (self.new ≡ record self.old { parent = put self.old.parent cell word }) }
+        ensures ok { OnOk result (self.new ≡ record self.old { parent = put self.old.parent cell word; sorted = self.new.sorted }) }
         ensures words { OnOk result ((q : ℕ) → word_at self.new.parent q ≡ (if nat_eq cell q then Some word else word_at self.old.parent q)) }
         ensures len { length self.new.parent ≤ length self.old.parent + 1 }
         ensures err { OnErr result (self.new ≡ self.old) }
@@ -157,7 +172,7 @@ impl WriteSet {
         ensures reserved { self.new.reserved ≡ self.old.reserved }
         ensures written { (cell : ℕ) → written self.new cell ≡ written self.old cell }
     {
-        put_all(&mut self.parent, self.child.as_slice());
+        put_all(&mut self.parent, self.child.unsorted());
         self.child.clear();
     }
 
@@ -175,13 +190,14 @@ impl WriteSet {
         ensures parent { self.new.parent ≡ [] }
         ensures child { self.new.child ≡ [] }
         ensures reserved { self.new.reserved ≡ 0 }
+        ensures sorted { self.new.sorted ≡ true }
     {
         self.parent.clear();
         self.child.clear();
         self.reserved = 0;
     }
 
-    /// The parent's writes, in ascending order of cells.
+    /// The parent's writes, in ascending order of cells. Takes no memory.
     pub fn into_parent(self) -> Vec<(u32, u64)>
         ensures entries { result.items ≡ self.parent }
         ensures ascending { IsAscending self.parent }

@@ -1,5 +1,5 @@
 use Rattle.attempt_lists.proofs.Index.{scanned}
 use Rattle.attempt_lists.proofs.cell_index.CellIndex.place.Goals as goal
 
-pub returns-else-self : goal.returns-else-self
-returns-else-self c = scanned c.args.entries.now c.args.cell c.scan.result c.scan.ensures
+pub returns-else-self-2 : goal.returns-else-self-2
+returns-else-self-2 c = scanned c.args.entries.now c.args.cell c.scan.result c.scan.ensures

@@ -1,11 +1,12 @@
 use Rattle.std.proofs.Common.{rules}
 use Rattle.std.proofs.lemmas.List.Sorted.{answers_always}
 use Rattle.attempt_lists.proofs.Places.{searched}
-use Rattle.attempt_lists.proofs.cell_map.CellMap.search_within.Goals as goal
+use Rattle.attempt_lists.proofs.cell_index.find.Goals as goal
 
--- the closure gives an entry's cell, and the slice is the map's entries
+-- the closure gives an entry's cell
 pub returns : goal.returns
 returns c =
     let facts = c.binary_search_by_key.ensures in
     let by_cell = facts.position (λ e. e.0) (answers_always _ _ _ (λ f a r g called. search rules)) in
-    rw (← c.self.view_is, ← c.deref.ensures.value) (searched _ (rw c.deref.ensures.value c.self.invariant.0) c.args.cell _ facts.bound by_cell)
+    let ends = searched _ c.requires.ascending c.args.cell _ facts.bound by_cell in
+    record { found = ends.found; absent = ends.absent }
