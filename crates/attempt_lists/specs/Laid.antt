@@ -84,10 +84,6 @@ length-put (e ∷ es) cell word ascending =
       | inr from ↦ grind (arith, nat_tests, from, length-put es cell word (ascending_tail e es ascending))
     ]
 
-length-put_positive : (es : Entries) (cell word : ℕ) → 0 < length (put es cell word)
-length-put_positive [] cell word = omega arith
-length-put_positive (e ∷ es) cell word = grind (arith, nat_tests)
-
 -- what holds of each cell and of the new one holds of each cell after the put
 pub each_put : (P : ℕ → Type 0) (es : Entries) (cell word : ℕ) → EachCell P es → P cell → EachCell P (put es cell word)
 each_put P [] cell word each new = each_cons P (cell, word) [] new each
@@ -179,12 +175,15 @@ length-laid_over lower (e ∷ es) ascending =
     let first = length-put lower e.0 e.1 ascending in
     (grind (arith, rest.0, first), grind (arith, rest.1, first))
 
--- it is empty where both are
-pub nothing_laid_over : (lower upper : Entries) → IsAscending lower → length (laid_over lower upper) ≡ 0 → length lower + length upper ≡ 0
-nothing_laid_over lower [] ascending none = omega (arith, none)
-nothing_laid_over lower (e ∷ es) ascending none =
-    let rest = length-laid_over (put lower e.0 e.1) es (ascending_put lower e.0 e.1 ascending) in
-    absurd (omega (arith, rest.0, length-put_positive lower e.0 e.1, none))
+put_some : (es : Entries) (cell word : ℕ) → IsAscending es → 0 < length (put es cell word)
+put_some [] cell word ascending = omega arith
+put_some (e ∷ es) cell word ascending = omega (arith, length-put (e ∷ es) cell word ascending)
+
+-- nothing comes of nothing alone
+pub none-laid_over : (lower upper : Entries) → IsAscending lower → length (laid_over lower upper) ≡ 0 → length lower + length upper ≡ 0
+none-laid_over lower [] ascending none = omega (arith, none)
+none-laid_over lower (e ∷ es) ascending none =
+    absurd (omega (arith, none, (length-laid_over (put lower e.0 e.1) es (ascending_put lower e.0 e.1 ascending)).0, put_some lower e.0 e.1 ascending))
 
 -- what holds of the cells of both lists holds of its cells
 pub keys-laid_over : (P : ℕ → Type 0) (lower upper : Entries) → All P (keys_of lower) → All P (keys_of upper) → All P (keys_of (laid_over lower upper))

@@ -59,10 +59,8 @@ impl WriteSet {
 
     /// Whether no cell is written at either level.
     pub fn is_empty(&self) -> bool
-        ensures levels { IsTrue result ↔ (length self.now.parent + length self.now.child ≡ 0) }
-        ensures merged { IsTrue result ↔ (length (merged self.now) ≡ 0) }
+        ensures { IsTrue result ↔ (length self.now.parent + length self.now.child ≡ 0) }
     {
-        self.ascending_law();
         self.parent.len() == 0 && self.child.len() == 0
     }
 
@@ -99,6 +97,13 @@ impl WriteSet {
         ensures { result ≡ length self.now.child }
     {
         self.child.len()
+    }
+
+    /// Nothing is written where nothing is at either level.
+    pub fn empty_law(&self)
+        ensures { length (merged self.now) ≡ 0 → length self.now.parent + length self.now.child ≡ 0 }
+    {
+        self.ascending_law();
     }
 
     /// How many cells the parent writes.
