@@ -35,6 +35,7 @@ impl<'a, M: Meaning> Tx<'a, M> {
         ensures steps_to_stop { OnErr result (GrewBy (2 * newly_held self.old.pass self.new.pass + 2) (trail_of self.old.pass) (trail_of self.new.pass)) }
     {
         self.committing = true;
+        self.writes.sort();
         let table = self.table;
         match lock_all(
             table,

@@ -32,7 +32,7 @@ pub(crate) fn reserve_lock<M: Meaning>(
     ensures ok { OnOk result (promised writes.now kept < held.new.reserved) }
 {
     let room = held.reserved();
-    let promised = writes.parent_len() + writes.child().len() + kept as usize;
+    let promised = writes.parent_len() + writes.child_len() + kept as usize;
     if promised < room {
         return Ok(());
     }

@@ -98,6 +98,7 @@ fn lock_at<M: Meaning>(
 ) -> Result<(), Stop>
     requires attempt { IsAttempt table.now pass.old version reads.now writes.now held.old true }
     requires undrawn { pass.old.view.stage ≡ Open }
+    requires sorted { writes.now.sorted ≡ true }
     requires index { index < length writes.now.parent }
     requires locks { held.old.reserved ≤ pass.old.places }
     requires room { 0 < held.old.reserved }
@@ -138,6 +139,7 @@ pub(crate) fn lock_all<M: Meaning>(
     version: u64,
 ) -> Result<(), Stop>
     requires attempt { IsAttempt table.now pass.old version reads.now writes.now held.old true }
+    requires sorted { writes.now.sorted ≡ true }
     requires undrawn { pass.old.view.stage ≡ Open }
     requires locks { held.old.reserved ≤ pass.old.places }
     requires room { length writes.now.parent ≤ held.old.reserved }

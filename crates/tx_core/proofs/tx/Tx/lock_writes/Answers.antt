@@ -8,17 +8,19 @@ pub returns-in-Ok-clause-leaves : goal.returns-in-Ok-clause-leaves
 returns-in-Ok-clause-leaves g c =
     let e = c.in-Ok.ensures in
     let pass = ap (λ (a : Attempt _ _). a.pass) (sym c.self.view_is) in
-    let writes = ap (λ (a : Attempt _ _). a.writes) (sym c.self.view_is) in
-    holds_writes _ c.args.self.now _ _ (ap (λ (a : Attempt _ _). a.version) c.self.view_is) (ap (λ (a : Attempt _ _). a.observations) c.self.view_is) (ap (λ (a : Attempt _ _). a.writes) c.self.view_is)
+    let sorted = c.sort.ensures.parent ∙ ap (λ (a : Attempt _ _). a.writes) c.self.view_is in
+    let writes = sym sorted in
+    holds_writes _ c.args.self.now _ _ (ap (λ (a : Attempt _ _). a.version) c.self.view_is) (ap (λ (a : Attempt _ _). a.observations) c.self.view_is) sorted
     (rw pass e.pass) (rw (pass, writes) e.steps) (rw (pass, writes) e.others) (rw pass e.kept) (ap (λ (a : Attempt _ _). a.state) c.self.view_is)
 
 pub returns-in-Err-clause-leaves : goal.returns-in-Err-clause-leaves
 returns-in-Err-clause-leaves g c =
     let e = c.in-Err.ensures in
     let pass = ap (λ (a : Attempt _ _). a.pass) (sym c.self.view_is) in
-    let writes = ap (λ (a : Attempt _ _). a.writes) (sym c.self.view_is) in
+    let sorted = c.sort.ensures.parent ∙ ap (λ (a : Attempt _ _). a.writes) c.self.view_is in
+    let writes = sym sorted in
     let version = ap (λ (a : Attempt _ _). a.version) (sym c.self.view_is) in
-    holds_writes _ c.args.self.now _ _ (ap (λ (a : Attempt _ _). a.version) c.self.view_is) (ap (λ (a : Attempt _ _). a.observations) c.self.view_is) (ap (λ (a : Attempt _ _). a.writes) c.self.view_is)
+    holds_writes _ c.args.self.now _ _ (ap (λ (a : Attempt _ _). a.version) c.self.view_is) (ap (λ (a : Attempt _ _). a.observations) c.self.view_is) sorted
     (rw pass e.pass) (rw (pass, writes) e.steps) (rw (pass, writes) e.others) (rw pass e.kept)
     (record {
       state = c.stopped-self-inside.ensures ∙ ap (λ (a : Attempt _ _). stopped_from a.state) c.self.view_is;
