@@ -5,3 +5,4 @@ pub mod Index
 pub mod Levels
 pub mod Observed
 pub mod Parts
+pub mod Emptied

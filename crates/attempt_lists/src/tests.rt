@@ -99,6 +99,21 @@ fn cleared_lists_are_as_new(rt: HostRuntime) -> Result<(), Fail> {
     Ok(())
 }
 
+#[test]
+fn lists_are_kept_for_the_next_attempt(rt: HostRuntime) -> Result<(), Fail> {
+    let alloc = rt.alloc();
+    let mut lists = KeptLists::new(alloc);
+    lists.writes.put(4, 1)?;
+    lists.held.push(4, 0)?;
+    lists.additions.later(alloc, 2, 9)?;
+    lists.clear();
+    assert!(rt; lists.writes.is_empty() && lists.additions.is_empty());
+    assert_eq!(rt; (lists.reads.len(), lists.held.len()), (0, 0));
+    lists.writes.put(3, 2)?;
+    assert_eq!(rt; (lists.writes.get(3), lists.writes.get(4)), (Some(2), None));
+    Ok(())
+}
+
 // A cell that left a long list has its place no more, though others came since.
 #[test]
 fn cells_that_left_are_not_found(rt: HostRuntime) -> Result<(), Fail> {
