@@ -16,6 +16,7 @@ pub struct CellList {
     filter: u64,
     index: CellIndex,
     reserved: usize,
+    room: usize,
 }
 
 impl Model for CellList {
@@ -29,7 +30,8 @@ impl Model for CellList {
 
     ghost view = { λ a. record { entries = a.entries.items; reserved = a.reserved } };
 
-    ghost invariant = { λ a. NoCellTwice a.entries.items × AllPass a.filter a.entries.items × Indexes a.index a.entries.items × (vec_len a.entries + a.reserved ≤ vec_capacity a.entries) × (owed a.index.active (vec_len a.entries) a.reserved ≤ spare a.index.places) };
+    // There is room for at least as many more cells as are promised.
+    ghost invariant = { λ a. NoCellTwice a.entries.items × AllPass a.filter a.entries.items × Indexes a.index a.entries.items × (vec_len a.entries + a.room ≤ vec_capacity a.entries) × (owed a.index.active (vec_len a.entries) a.room ≤ spare a.index.places) × (a.reserved ≤ a.room) };
 }
 
 impl CellList {
@@ -43,6 +45,7 @@ impl CellList {
             filter: 0,
             index: CellIndex::new(alloc),
             reserved: 0,
+            room: 0,
         }
     }
 
@@ -105,8 +108,15 @@ impl CellList {
         let Some(reserved) = self.reserved.checked_add(more) else {
             return Err(AllocError);
         };
-        self.entries.reserve(reserved)?;
-        self.index.reserve(self.entries.len(), reserved)?;
+        if reserved <= self.room {
+            self.reserved = reserved;
+            return Ok(());
+        }
+        // A list that grows doubles at least.
+        let room = reserved.max(self.entries.len());
+        self.entries.reserve(room)?;
+        self.index.reserve(self.entries.len(), room)?;
+        self.room = room;
         self.reserved = reserved;
         Ok(())
     }
@@ -132,6 +142,7 @@ impl CellList {
         self.index.push(&self.entries, cell);
         self.filter = with_cell(self.filter, cell);
         self.entries.push_reserved((cell, word));
+        self.room -= 1;
         self.reserved -= 1;
     }
 

@@ -15,4 +15,5 @@ invariant_of-self c =
       indexes_set _ _ c.args.word in_range _ c.self.invariant.2,
       c.self.invariant.3,
       c.self.invariant.4,
+      c.self.invariant.5,
     )

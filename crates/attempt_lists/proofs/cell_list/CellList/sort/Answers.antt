@@ -12,7 +12,7 @@ invariant_of-self c =
     let rises : IsNonDecreasingBy (λ e. e.0) c.sort_unstable_by_key.new.self.items = IsNonDecreasingBy-from_sort_by_key (λ e. e.0) _ c.sort_unstable_by_key.ensures.sorted (λ a r q k. search rules) in
     let moved = c.sort_unstable_by_key.ensures.permutation in
     let once = c.self.invariant.0 in
-    let room = owed_ordered c.self.inside.index.active _ c.self.inside.reserved _ _ _ c.self.invariant.4 (λ active. rw c.self.inside.entries.ok.0 (index_fits c.self.inside.index.places _ once (c.self.invariant.2.placed active))) c.order.ensures.kept c.order.ensures.freed in (
+    let room = owed_ordered c.self.inside.index.active _ c.self.inside.room _ _ _ c.self.invariant.4 (λ active. rw c.self.inside.entries.ok.0 (index_fits c.self.inside.index.places _ once (c.self.invariant.2.placed active))) c.order.ensures.kept c.order.ensures.freed in (
       once_moved _ _ moved once,
       pass_moved _ _ moved once _ c.self.invariant.1,
       record {
@@ -22,6 +22,7 @@ invariant_of-self c =
       },
       omega (arith, c.sort_unstable_by_key.ensures.len, c.sort_unstable_by_key.ensures.capacity, c.self.invariant.3),
       rw (c.order.ensures.active, c.sort_unstable_by_key.ensures.len) room,
+      c.self.invariant.5,
     )
 
 pub returns-clause-entries : goal.returns-clause-entries
