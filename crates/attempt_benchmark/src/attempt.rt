@@ -51,8 +51,8 @@ fn zeros(alloc: Global, cells: u32) -> Result<Vec<u64>, AllocError>
     Ok(values)
 }
 
-// Reads a cell, and writes 1 more than it has.
-fn add_one(tx: &mut Tx<'_, Untold>, cell: u32) -> Result<(), Refused>
+// Reads a cell, and where it is to be written writes 1 more than it has.
+fn visit(tx: &mut Tx<'_, Untold>, cell: u32, written: bool) -> Result<(), Refused>
     requires callable { MayCall tx.old }
     requires cell { cell < length tx.old.table.opening }
     ensures callable { OnOk result (MayCall tx.new) }
@@ -60,20 +60,24 @@ fn add_one(tx: &mut Tx<'_, Untold>, cell: u32) -> Result<(), Refused>
     ensures refused { IsSole tx.old.pass → IfErr result WantsMemory }
 {
     let value = tx.read(cell)?;
+    if !written {
+        return Ok(());
+    }
     tx.write(cell, value.saturating_add(1))?;
     Ok(())
 }
 
-fn add_one_to_each(tx: &mut Tx<'_, Untold>, cells: u32) -> Result<(), Refused>
+// Visits cells of the table, the first of which are written.
+fn visit_all(tx: &mut Tx<'_, Untold>, size: Size) -> Result<(), Refused>
     requires callable { MayCall tx.old }
-    requires cells { (0 < cells) × (cells ≤ length tx.old.table.opening) }
+    requires cells { (0 < size.cells) × (size.cells ≤ length tx.old.table.opening) }
     ensures callable { OnOk result (MayCall tx.new) }
     ensures goes_on { GoesOn tx.old tx.new }
     ensures refused { IsSole tx.old.pass → IfErr result WantsMemory }
 {
-    for i in 0..cells {
-        let cell = (i as u64 * LEAP % cells as u64) as u32;
-        add_one(tx, cell)?;
+    for i in 0..size.reads {
+        let cell = (i as u64 * LEAP % size.cells as u64) as u32;
+        visit(tx, cell, i < size.writes)?;
     }
     Ok(())
 }
@@ -118,6 +122,17 @@ fn publish(mut tx: Tx<'_, Untold>) -> Result<Pass<Untold>, Refused>
     }
 }
 
+/// How large the table and the attempt are.
+#[derive(Clone, Copy)]
+pub struct Size {
+    /// The cells of the table.
+    pub cells: u32,
+    /// How many of them are read.
+    pub reads: u32,
+    /// How many of those that are read are written.
+    pub writes: u32,
+}
+
 /// What came of a committed attempt.
 #[derive(Clone, Copy)]
 pub struct Committed {
@@ -127,25 +142,25 @@ pub struct Committed {
     pub last: u64,
 }
 
-/// Reads each cell of a new table of so many cells, writes 1 more than it has, and commits all in one attempt. Nothing but
-/// want of memory refuses it.
-pub fn commit_all(alloc: Global, cells: u32) -> Result<Committed, Refused>
-    requires cells { (0 < cells) × (cells ≤ 2 ^ 24) }
+/// Reads cells of a new table, writes 1 more than it has to the first of them, and commits all in one attempt. Nothing but want
+/// of memory refuses it.
+pub fn commit_all(alloc: Global, size: Size) -> Result<Committed, Refused>
+    requires cells { (0 < size.cells) × (size.cells ≤ 2 ^ 24) }
     ensures refused { IfErr result WantsMemory }
 {
-    let values = zeros(alloc, cells)?;
+    let values = zeros(alloc, size.cells)?;
     let (table, pass) = CellTable::open(alloc, Untold, values.as_slice(), 1)?;
     let mut tx = match Tx::begin(alloc, &table, pass) {
         Ok(tx) => tx,
         Err((_, memory)) => return Err(memory.into()),
     };
-    if let Err(refused) = add_one_to_each(&mut tx, cells) {
+    if let Err(refused) = visit_all(&mut tx, size) {
         tx.abort();
         return Err(refused);
     }
     let version = tx.version();
     let pass = commit(tx)?;
     let contents = table.close(pass);
-    let last = contents.value(cells - 1);
+    let last = contents.value(size.cells - 1);
     Ok(Committed { version, last })
 }
