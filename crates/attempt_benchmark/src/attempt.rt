@@ -3,7 +3,8 @@ ghost use Rattle.std.specs.Prelude.{◌≡◌, ◌<◌, ◌≤◌, ◌^◌, leng
 ghost use Rattle.cell_table.specs.Pass.{IsPassOf, IsSole};
 ghost use Rattle.cell_table.specs.declared.view.Stage.TheVariants.{Open};
 ghost use Rattle.cell_table.specs.Steps.{IsIdle};
-ghost use Rattle.tx_core.specs.Calls.{IsOpen, MayCall, NothingWaits, HoldsWrites};
+ghost use Rattle.tx_core.specs.declared.stop.TxState.TheVariants.{Running};
+ghost use Rattle.tx_core.specs.Calls.{MayCommit, NothingWaits, HoldsWrites};
 ghost use Rattle.attempt_benchmark.specs.Refused.{WantsMemory};
 ghost use Rattle.attempt_benchmark.specs.Attempt.{GoesOn};
 
@@ -53,9 +54,9 @@ fn zeros(alloc: Global, cells: u32) -> Result<Vec<u64>, AllocError>
 
 // Reads a cell, and where it is to be written writes 1 more than it has.
 fn visit(tx: &mut Tx<'_, Untold>, cell: u32, written: bool) -> Result<(), Refused>
-    requires callable { MayCall tx.old }
+    requires callable { MayCommit tx.old }
     requires cell { cell < length tx.old.table.opening }
-    ensures callable { OnOk result (MayCall tx.new) }
+    ensures callable { OnOk result (MayCommit tx.new) }
     ensures goes_on { GoesOn tx.old tx.new }
     ensures refused { IsSole tx.old.pass → IfErr result WantsMemory }
 {
@@ -69,9 +70,9 @@ fn visit(tx: &mut Tx<'_, Untold>, cell: u32, written: bool) -> Result<(), Refuse
 
 // Visits cells of the table, the first of which are written.
 fn visit_all(tx: &mut Tx<'_, Untold>, size: Size) -> Result<(), Refused>
-    requires callable { MayCall tx.old }
+    requires callable { MayCommit tx.old }
     requires cells { (0 < size.cells) × (size.cells ≤ length tx.old.table.opening) }
-    ensures callable { OnOk result (MayCall tx.new) }
+    ensures callable { OnOk result (MayCommit tx.new) }
     ensures goes_on { GoesOn tx.old tx.new }
     ensures refused { IsSole tx.old.pass → IfErr result WantsMemory }
 {
@@ -84,7 +85,7 @@ fn visit_all(tx: &mut Tx<'_, Untold>, size: Size) -> Result<(), Refused>
 
 // Commits what the attempt wrote.
 fn commit(mut tx: Tx<'_, Untold>) -> Result<Pass<Untold>, Refused>
-    requires callable { MayCall tx }
+    requires callable { MayCommit tx }
     requires resolved { NothingWaits tx }
     requires draw { 0 < tx.pass.view.draws }
     ensures sole { IsSole tx.entry.pass → IsOk result }
@@ -104,7 +105,7 @@ fn commit(mut tx: Tx<'_, Untold>) -> Result<Pass<Untold>, Refused>
 
 // Draws the version of the commit, and publishes what was locked.
 fn publish(mut tx: Tx<'_, Untold>) -> Result<Pass<Untold>, Refused>
-    requires open_now { IsOpen tx.state }
+    requires running { tx.state ≡ Running }
     requires undrawn { tx.pass.view.stage ≡ Open }
     requires draw { 0 < tx.pass.view.draws }
     requires some_write { 0 < length tx.writes }

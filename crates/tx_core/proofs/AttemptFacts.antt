@@ -13,7 +13,7 @@ use Rattle.cell_table.specs.declared.view.View.{View}
 use Rattle.cell_table.specs.Steps.{Grows, drawn}
 use Rattle.cell_table.specs.Pass.{TableState, PassState, IsPassOf, with_view}
 use Rattle.attempt_lists.specs.Cells.{Entries, Listed, word_at, word_of, cell_at, put}
-use Rattle.attempt_lists.specs.Levels.{Levels}
+use Rattle.attempt_lists.specs.Laid.{word_at-put}
 use Rattle.attempt_lists.specs.Observed.{Observed}
 use Rattle.tx_core.specs.Seen.{LooksOnly, KnowsMore, IsSeen}
 use Rattle.tx_core.specs.Tx.{IsAttempt}
@@ -51,13 +51,13 @@ in_keys P (e ∷ es) c all some = elim (ℕ_discrete e.0 c) [
 
 module _ {M D : Type 0} (table : TableState M) (version : ℕ) where
   -- the view knows more, and the attempt holds what it held
-  pub attempt_moves : (p q : PassState M D) (reads : Observed) (writes : Levels) (held : Listed) (committing : Bool) → Grows p.view q.view → q.view.held ≡ p.view.held → q.view.stage ≡ p.view.stage → (q.seen ≤ version) × (version ≤ q.view.known) → q.reserved ≡ p.reserved → IsPassOf table q → IsAttempt table p version reads writes held committing → IsAttempt table q version reads writes held committing
+  pub attempt_moves : (p q : PassState M D) (reads : Observed) (writes : Entries) (held : Listed) (committing : Bool) → Grows p.view q.view → q.view.held ≡ p.view.held → q.view.stage ≡ p.view.stage → (q.seen ≤ version) × (version ≤ q.view.known) → q.reserved ≡ p.reserved → IsPassOf table q → IsAttempt table p version reads writes held committing → IsAttempt table q version reads writes held committing
   attempt_moves p q reads writes held committing grows kept stage begun reserved of a = record {
     of = of;
     begun = begun;
     observed = λ i lt. seen_grows p.view q.view version _ _ _ grows (λ h. rw kept h) (a.observed i lt);
     written = a.written;
-    no_child = a.no_child;
+    listed = kept ∙ a.listed;
     holds = λ c. rw kept (a.holds c);
     in_table = a.in_table;
     sized = a.sized;
@@ -71,19 +71,19 @@ module _ {M D : Type 0} (table : TableState M) (version : ℕ) where
   }
 
   -- a load of the clock, and loads of words after it
-  pub attempt_knows : (p q : PassState M D) (reads : Observed) (writes : Levels) (held : Listed) (committing : Bool) → KnowsMore p q → IsPassOf table q → IsAttempt table p version reads writes held committing → IsAttempt table q version reads writes held committing
+  pub attempt_knows : (p q : PassState M D) (reads : Observed) (writes : Entries) (held : Listed) (committing : Bool) → KnowsMore p q → IsPassOf table q → IsAttempt table p version reads writes held committing → IsAttempt table q version reads writes held committing
   attempt_knows p q reads writes held committing knows of a =
       let seen : q.seen ≡ p.seen = ap (λ (s : PassState M D). s.seen) knows.is in
       attempt_moves p q reads writes held committing knows.grows knows.held knows.stage (rw seen a.begun.0, omega (arith, a.begun.1, knows.grows.known)) (ap (λ (s : PassState M D). s.reserved) knows.is) of a
 
   -- loads of words
-  pub attempt_looks : (p q : PassState M D) (reads : Observed) (writes : Levels) (held : Listed) (committing : Bool) → LooksOnly p q → IsPassOf table q → IsAttempt table p version reads writes held committing → IsAttempt table q version reads writes held committing
+  pub attempt_looks : (p q : PassState M D) (reads : Observed) (writes : Entries) (held : Listed) (committing : Bool) → LooksOnly p q → IsPassOf table q → IsAttempt table p version reads writes held committing → IsAttempt table q version reads writes held committing
   attempt_looks p q reads writes held committing looks of a =
       let seen : q.seen ≡ p.seen = ap (λ (s : PassState M D). s.seen) looks.0 in
       attempt_moves p q reads writes held committing looks.1.grows looks.1.held looks.1.stage (rw (seen, looks.1.known) a.begun) (ap (λ (s : PassState M D). s.reserved) looks.0) of a
 
   -- one more observation, of a cell that isn't held or has the version that was observed
-  pub attempt_observes : (p : PassState M D) (reads more : Observed) (writes : Levels) (held : Listed) (committing : Bool) (cell x u : ℕ) → IsAttempt table p version reads writes held committing → more.observations ≡ reads.observations ++ (cell, x) ∷ [] → more.versions ≡ reads.versions ++ u ∷ [] → IsSeen p.view version cell x u → (committing ≡ false → u ≤ version) → (has cell (cells_of p.view.held) ≡ true → Among (cell, u) p.view.held) → IsAttempt table p version more writes held committing
+  pub attempt_observes : (p : PassState M D) (reads more : Observed) (writes : Entries) (held : Listed) (committing : Bool) (cell x u : ℕ) → IsAttempt table p version reads writes held committing → more.observations ≡ reads.observations ++ (cell, x) ∷ [] → more.versions ≡ reads.versions ++ u ∷ [] → IsSeen p.view version cell x u → (committing ≡ false → u ≤ version) → (has cell (cells_of p.view.held) ≡ true → Among (cell, u) p.view.held) → IsAttempt table p version more writes held committing
   attempt_observes p reads more writes held committing cell x u a observations versions seen low pin = record {
     of = a.of;
     begun = a.begun;
@@ -92,7 +92,7 @@ module _ {M D : Type 0} (table : TableState M) (version : ℕ) where
       | inr new ↦ rw (observations, versions, new.1, new.2, (number_at-push reads.versions u i).1 (omega (arith, new.0, a.sized))) seen
     ];
     written = a.written;
-    no_child = a.no_child;
+    listed = a.listed;
     holds = a.holds;
     in_table = a.in_table;
     sized = rw (observations, versions) (length_push reads.versions u ∙ ap (λ n. n + 1) a.sized ∙ sym (length_push reads.observations (cell, x)));
@@ -112,13 +112,13 @@ module _ {M D : Type 0} (table : TableState M) (version : ℕ) where
   }
 
   -- room for more observations
-  pub attempt_reserves : (p : PassState M D) (reads more : Observed) (writes : Levels) (held : Listed) (committing : Bool) → more.observations ≡ reads.observations → more.versions ≡ reads.versions → IsAttempt table p version reads writes held committing → IsAttempt table p version more writes held committing
+  pub attempt_reserves : (p : PassState M D) (reads more : Observed) (writes : Entries) (held : Listed) (committing : Bool) → more.observations ≡ reads.observations → more.versions ≡ reads.versions → IsAttempt table p version reads writes held committing → IsAttempt table p version more writes held committing
   attempt_reserves p reads more writes held committing observations versions a = record {
     of = a.of;
     begun = a.begun;
     observed = λ i lt. rw (observations, versions) (a.observed i (rw observations at lt));
     written = a.written;
-    no_child = a.no_child;
+    listed = a.listed;
     holds = a.holds;
     in_table = a.in_table;
     sized = rw (observations, versions) a.sized;
@@ -131,38 +131,18 @@ module _ {M D : Type 0} (table : TableState M) (version : ℕ) where
     reserved = a.reserved;
   }
 
-  -- room for more writes
-  pub attempt_rooms : (p : PassState M D) (reads : Observed) (writes more : Levels) (held : Listed) (committing : Bool) → more.parent ≡ writes.parent → more.child ≡ writes.child → IsAttempt table p version reads writes held committing → IsAttempt table p version reads more held committing
-  attempt_rooms p reads writes more held committing parent child a = record {
-    of = a.of;
-    begun = a.begun;
-    observed = a.observed;
-    written = rw parent a.written;
-    no_child = child ∙ a.no_child;
-    holds = a.holds;
-    in_table = a.in_table;
-    sized = a.sized;
-    met = λ c r w. a.met c r (rw (← parent) w);
-    pinned = a.pinned;
-    undecided = a.undecided;
-    undrawn = a.undrawn;
-    nothing_drawn = a.nothing_drawn;
-    early = a.early;
-    reserved = a.reserved;
-  }
-
   -- one more write
-  pub attempt_writes : (p : PassState M D) (reads : Observed) (writes more : Levels) (held : Listed) (committing : Bool) (cell x : ℕ) → IsAttempt table p version reads writes held committing → cell < length table.opening → more.parent ≡ put writes.parent cell x → more.child ≡ [] → ((c : ℕ) → word_at more.parent c ≡ (if eqb cell c then Some x else word_at writes.parent c)) → IsAttempt table p version reads more held committing
-  attempt_writes p reads writes more held committing cell x a there parent child words = record {
+  pub attempt_writes : (p : PassState M D) (reads : Observed) (writes more : Entries) (held : Listed) (committing : Bool) (cell x : ℕ) → IsAttempt table p version reads writes held committing → cell < length table.opening → more ≡ put writes cell x → IsAttempt table p version reads more held committing
+  attempt_writes p reads writes more held committing cell x a there puts = record {
     of = a.of;
     begun = a.begun;
     observed = a.observed;
-    written = rw parent (All-keys-insert_entry nat_cmp cell x (λ c. c < length table.opening) writes.parent a.written there);
-    no_child = child;
+    written = rw puts (All-keys-insert_entry nat_cmp cell x (λ c. c < length table.opening) writes a.written there);
+    listed = a.listed;
     holds = a.holds;
     in_table = a.in_table;
     sized = a.sized;
-    met = λ c r w. a.met c r (unwritten c (sym (words c) ∙ w));
+    met = λ c r w. a.met c r (unwritten c (sym (word_at-put writes cell x c) ∙ ap (λ (es : Entries). word_at es c) (sym puts) ∙ w));
     pinned = a.pinned;
     undecided = a.undecided;
     undrawn = a.undrawn;
@@ -171,11 +151,11 @@ module _ {M D : Type 0} (table : TableState M) (version : ℕ) where
     reserved = a.reserved;
   }
     where
-      unwritten : (c : ℕ) → (if eqb cell c then Some x else word_at writes.parent c) ≡ None → word_at writes.parent c ≡ None
+      unwritten : (c : ℕ) → (if eqb cell c then Some x else word_at writes c) ≡ None → word_at writes c ≡ None
       unwritten c e = grind (arith, nat_tests, e)
 
   -- more room for locks
-  pub attempt_widens : (p q : PassState M D) (reads : Observed) (writes : Levels) (held wide : Listed) (committing : Bool) → IsAttempt table p version reads writes held committing → q ≡ record p { places = q.places } → wide.entries ≡ held.entries → IsAttempt table q version reads writes wide committing
+  pub attempt_widens : (p q : PassState M D) (reads : Observed) (writes : Entries) (held wide : Listed) (committing : Bool) → IsAttempt table p version reads writes held committing → q ≡ record p { places = q.places } → wide.entries ≡ held.entries → IsAttempt table q version reads writes wide committing
   attempt_widens p q reads writes held wide committing a same entries =
       let view : q.view ≡ p.view = ap (λ (s : PassState M D). s.view) same in
       record {
@@ -183,8 +163,8 @@ module _ {M D : Type 0} (table : TableState M) (version : ℕ) where
         begun = (rw (ap (λ (s : PassState M D). s.seen) same) a.begun.0, rw view a.begun.1);
         observed = λ i lt. rw view (a.observed i lt);
         written = a.written;
-        no_child = a.no_child;
-        holds = λ c. rw (view, entries) (a.holds c);
+            listed = rw (view, entries) a.listed;
+            holds = λ c. rw (view, entries) (a.holds c);
         in_table = rw entries a.in_table;
         sized = a.sized;
         met = λ c r w. rw view (a.met c r w);
@@ -197,7 +177,7 @@ module _ {M D : Type 0} (table : TableState M) (version : ℕ) where
       }
 
   -- a version is drawn
-  pub attempt_draws : (p q : PassState M D) (reads : Observed) (writes : Levels) (held : Listed) (d : ℕ) → IsAttempt table p version reads writes held true → q ≡ with_view p (drawn p.view d) → IsPassOf table q → p.view.known < d → p.view.held ≢ [] → IsAttempt table q version reads writes held true
+  pub attempt_draws : (p q : PassState M D) (reads : Observed) (writes : Entries) (held : Listed) (d : ℕ) → IsAttempt table p version reads writes held true → q ≡ with_view p (drawn p.view d) → IsPassOf table q → p.view.known < d → p.view.held ≢ [] → IsAttempt table q version reads writes held true
   attempt_draws p q reads writes held d a is of later some =
       let view : q.view ≡ drawn p.view d = ap (λ (s : PassState M D). s.view) is in
       let kept : q.view.held ≡ p.view.held = ap (λ (v : View M D). v.held) view in
@@ -206,8 +186,8 @@ module _ {M D : Type 0} (table : TableState M) (version : ℕ) where
         begun = (rw (ap (λ (s : PassState M D). s.seen) is) a.begun.0, rw (ap (λ (v : View M D). v.known) view) (omega (arith, a.begun.1)));
         observed = λ i lt. seen_grows p.view q.view version _ _ _ (rw view (drawn_grows p.view d later)) (λ h. rw kept h) (a.observed i lt);
         written = a.written;
-        no_child = a.no_child;
-        holds = λ c. rw kept (a.holds c);
+            listed = kept ∙ a.listed;
+            holds = λ c. rw kept (a.holds c);
         in_table = a.in_table;
         sized = a.sized;
         met = λ c r w. rw kept (a.met c r w);
@@ -223,13 +203,13 @@ module _ {M D : Type 0} (table : TableState M) (version : ℕ) where
       true_false e = cc
 
   -- the first call of the commit
-  pub attempt_commits : (p : PassState M D) (reads : Observed) (writes : Levels) (held : Listed) (committing : Bool) → IsAttempt table p version reads writes held committing → IsAttempt table p version reads writes held true
+  pub attempt_commits : (p : PassState M D) (reads : Observed) (writes : Entries) (held : Listed) (committing : Bool) → IsAttempt table p version reads writes held committing → IsAttempt table p version reads writes held true
   attempt_commits p reads writes held committing a = record {
     of = a.of;
     begun = a.begun;
     observed = a.observed;
     written = a.written;
-    no_child = a.no_child;
+    listed = a.listed;
     holds = a.holds;
     in_table = a.in_table;
     sized = a.sized;

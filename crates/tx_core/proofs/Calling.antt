@@ -16,7 +16,8 @@ use Rattle.tx_core.specs.Tx.{Attempt, Observed, ObservedLate}
 use Rattle.tx_core.specs.Calls.{stopped_from, IsOfThese, TouchesOnly, GoesOn, StepsAt, CausedIn, EndsAt, HoldsAt, LooksAt, Locks}
 use Rattle.tx_core.specs.Words.{put_other}
 use Rattle.tx_core.specs.Facts.{of_cell, of_found, found_at_in, grew_none, grew_more, goes_holds, goes_looks, goes_none, touches_none, looks_none, looks_wider, steps_trans}
-use Rattle.tx_core.proofs.Locking.{has_insert, among_insert}
+use Rattle.tx_core.proofs.HeldCells.{has_insert}
+use Rattle.tx_core.proofs.Locking.{among_insert}
 
 none_of : (o : Option ℕ) → (IsSome o → ⊥) → o ≡ None
 none_of None off = refl

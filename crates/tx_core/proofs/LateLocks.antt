@@ -10,14 +10,14 @@ use Rattle.cell_table.specs.Rule.{cells_of}
 use Rattle.cell_table.specs.declared.view.Stage.TheVariants.{Open}
 use Rattle.cell_table.specs.Pass.{TableState, PassState, IsPassOf, IsHeld, trail_of}
 use Rattle.attempt_lists.specs.Cells.{Entries, Listed, word_at, cell_at}
-use Rattle.attempt_lists.specs.Levels.{Levels}
 use Rattle.attempt_lists.specs.Observed.{Observed}
 use Rattle.tx_core.specs.Causes.{GrewBy}
 use Rattle.tx_core.specs.Seen.{Takes, HoldsOnly, SameOthers}
 use Rattle.tx_core.specs.Tx.{IsAttempt}
 use Rattle.tx_core.specs.Calls.{newly_held}
 use Rattle.tx_core.specs.Facts.{length_insert, grew_none, grew_more, grew_trans, holds_only_none, holds_only_trans}
-use Rattle.tx_core.proofs.Locking.{attempt_locks_known, has_insert, no_entry}
+use Rattle.tx_core.proofs.HeldCells.{has_insert}
+use Rattle.tx_core.proofs.Locking.{attempt_locks_known, no_entry}
 
 -- what holds of every cell of a list holds of the cell at a place
 pub cell_there : (P : ℕ → Type 0) (es : Entries) (i : ℕ) → All P (keys_of es) → i < length es → P (cell_at es i)
@@ -48,13 +48,13 @@ module _ {M D : Type 0} where
 
 module _ {M D : Type 0} (table : TableState M) (version : ℕ) where
   -- a written cell is locked at a reserved place
-  pub attempt_locks_reserved : (p q : PassState M D) (reads : Observed) (writes : Levels) (held more : Listed) (cell u i : ℕ) → IsAttempt table p version reads writes held true → Takes p q cell u → IsPassOf table q → p.view.stage ≡ Open → more.entries ≡ held.entries ++ (cell, u) ∷ [] → i < length writes.parent → cell ≡ cell_at writes.parent i
+  pub attempt_locks_reserved : (p q : PassState M D) (reads : Observed) (writes : Entries) (held more : Listed) (cell u i : ℕ) → IsAttempt table p version reads writes held true → Takes p q cell u → IsPassOf table q → p.view.stage ≡ Open → more.entries ≡ held.entries ++ (cell, u) ∷ [] → i < length writes → cell ≡ cell_at writes i
       → ((i : ℕ) → i < length reads.observations → cell_at reads.observations i ≡ cell → slice_index reads.versions i ≡ u)
       → IsAttempt table q version reads writes more true
   attempt_locks_reserved p q reads writes held more cell u i a t of stage pushed lt is at_u =
       attempt_locks_known table version p p q reads writes held held more true cell u a refl refl t of stage pushed
-      (rw is (cell_there (λ c. c < length table.opening) writes.parent i a.written lt))
-      (λ r w. no_entry writes.parent cell i w lt (sym is))
+      (rw is (cell_there (λ c. c < length table.opening) writes i a.written lt))
+      (λ r w. no_entry writes cell i w lt (sym is))
       at_u
 
 -- every cell of a list stands at a place, and the cell at a place is in the list
@@ -74,18 +74,18 @@ word_there (e ∷ es) zero lt = grind (arith, nat_tests)
 word_there (e ∷ es) (suc i) lt = grind (arith, nat_tests, word_there es i (omega arith))
 
 -- After n written cells were tried and m of them are held
-pub record IsLocking {M D : Type 0} (table : TableState M) (version : ℕ) (reads : Observed) (writes : Levels) (start : PassState M D) (room n m : ℕ) (p : PassState M D) (held : Listed) : Type 0 where
+pub record IsLocking {M D : Type 0} (table : TableState M) (version : ℕ) (reads : Observed) (writes : Entries) (start : PassState M D) (room n m : ℕ) (p : PassState M D) (held : Listed) : Type 0 where
   pub attempt : IsAttempt table p version reads writes held true
   pub undrawn : p.view.stage ≡ Open
-  pub locked : (i : ℕ) → i < m → IsHeld p (cell_at writes.parent i)
+  pub locked : (i : ℕ) → i < m → IsHeld p (cell_at writes i)
   pub pass : HoldsOnly start p
-  pub others : (c : ℕ) → word_at writes.parent c ≡ None → has c (cells_of p.view.held) ≡ has c (cells_of start.view.held)
+  pub others : (c : ℕ) → word_at writes c ≡ None → has c (cells_of p.view.held) ≡ has c (cells_of start.view.held)
   pub kept : (t : ℕ × ℕ) → Among t start.view.held → Among t p.view.held
   pub places : held.reserved ≤ p.places
   pub left : room ≤ held.reserved + n
   pub grew : GrewBy (2 * n) (trail_of start) (trail_of p)
 
-module _ {M D : Type 0} (table : TableState M) (version : ℕ) (reads : Observed) (writes : Levels) (start : PassState M D) (room : ℕ) where
+module _ {M D : Type 0} (table : TableState M) (version : ℕ) (reads : Observed) (writes : Entries) (start : PassState M D) (room : ℕ) where
   pub locking_begins : (held : Listed) → IsAttempt table start version reads writes held true → start.view.stage ≡ Open → held.reserved ≤ start.places → room ≤ held.reserved → IsLocking table version reads writes start room 0 0 start held
   locking_begins held a stage places wide = record {
     attempt = a;
@@ -100,7 +100,7 @@ module _ {M D : Type 0} (table : TableState M) (version : ℕ) (reads : Observed
   }
 
   -- one more cell was tried
-  pub locking_tries : (n m : ℕ) (p q : PassState M D) (held more : Listed) → IsLocking table version reads writes start room n m p held → n < length writes.parent → IsAttempt table q version reads writes more true → HoldsOnly p q → SameOthers p q (cell_at writes.parent n) → ((c : ℕ) → IsHeld p c → IsHeld q c) → ((t : ℕ × ℕ) → Among t p.view.held → Among t q.view.held) → more.reserved ≤ q.places → held.reserved ≤ more.reserved + 1 → GrewBy 2 (trail_of p) (trail_of q) → IsLocking table version reads writes start room (n + 1) m q more
+  pub locking_tries : (n m : ℕ) (p q : PassState M D) (held more : Listed) → IsLocking table version reads writes start room n m p held → n < length writes → IsAttempt table q version reads writes more true → HoldsOnly p q → SameOthers p q (cell_at writes n) → ((c : ℕ) → IsHeld p c → IsHeld q c) → ((t : ℕ × ℕ) → Among t p.view.held → Among t q.view.held) → more.reserved ≤ q.places → held.reserved ≤ more.reserved + 1 → GrewBy 2 (trail_of p) (trail_of q) → IsLocking table version reads writes start room (n + 1) m q more
   locking_tries n m p q held more l lt a only same still kept places used grew = record {
     attempt = a;
     undrawn = only.stage ∙ l.undrawn;
@@ -113,11 +113,11 @@ module _ {M D : Type 0} (table : TableState M) (version : ℕ) (reads : Observed
     grew = grew_more (2 * n + 2) _ _ _ (omega arith) (grew_trans (2 * n) 2 _ _ _ l.grew grew);
   }
     where
-      not_there : (c : ℕ) → word_at writes.parent c ≡ None → c ≡ cell_at writes.parent n → ⊥
-      not_there c none is = no_entry writes.parent c n none lt (sym is)
+      not_there : (c : ℕ) → word_at writes c ≡ None → c ≡ cell_at writes n → ⊥
+      not_there c none is = no_entry writes c n none lt (sym is)
 
   -- and is held
-  pub locking_holds : (n m : ℕ) (p : PassState M D) (held : Listed) → IsLocking table version reads writes start room n m p held → IsHeld p (cell_at writes.parent m) → IsLocking table version reads writes start room n (m + 1) p held
+  pub locking_holds : (n m : ℕ) (p : PassState M D) (held : Listed) → IsLocking table version reads writes start room n m p held → IsHeld p (cell_at writes m) → IsLocking table version reads writes start room n (m + 1) p held
   locking_holds n m p held l h = record {
     attempt = l.attempt;
     undrawn = l.undrawn;

@@ -3,7 +3,9 @@ pub mod Newest
 pub mod Found
 pub mod Stopped
 pub mod AttemptFacts
+pub mod HeldCells
 pub mod Giving
+pub mod Nesting
 pub mod Locking
 pub mod Checking
 pub mod Parts
@@ -11,5 +13,6 @@ pub mod LateLocks
 pub mod Storing
 pub mod Increments
 pub mod Providing
+pub mod Backing
 pub mod SeenWords
 pub mod Calling

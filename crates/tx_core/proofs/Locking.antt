@@ -13,22 +13,15 @@ use Rattle.cell_table.specs.declared.view.Stage.TheVariants.{Open}
 use Rattle.cell_table.specs.Steps.{Grows, cell_key}
 use Rattle.cell_table.specs.Pass.{TableState, PassState, IsPassOf}
 use Rattle.attempt_lists.specs.Cells.{Entries, Listed, word_at, word_of, cell_at}
-use Rattle.attempt_lists.specs.Levels.{Levels}
 use Rattle.attempt_lists.specs.Observed.{Observed}
 use Rattle.tx_core.specs.Causes.{begun_of}
 use Rattle.tx_core.specs.Seen.{LooksOnly, IsSeen, Takes, HoldsOnly, SameOthers}
 use Rattle.tx_core.specs.Tx.{IsAttempt}
 use Rattle.tx_core.specs.Facts.{grows_trans}
 use Rattle.tx_core.proofs.Looks.{seen_grows}
+use Rattle.tx_core.specs.Children.{held_of}
+use Rattle.tx_core.proofs.HeldCells.{held_of_more, has_insert}
 use Rattle.tx_core.proofs.AttemptFacts.{cell_at-push, number_at-push, word_at-push}
-
-pub has_insert : (c cell u : ℕ) (held : List (ℕ × ℕ)) → has c (cells_of (insert_by cell_key (cell, u) held)) ≡ (if eqb cell c then true else has c (cells_of held))
-has_insert c cell u [] = refl
-has_insert c cell u (t ∷ ts) = at (ltb cell t.0) (eqb t.0 c) (eqb cell c) (has_insert c cell u ts)
-  where
-    at : (below same here : Bool) → has c (cells_of (insert_by cell_key (cell, u) ts)) ≡ (if eqb cell c then true else has c (cells_of ts)) → has c (cells_of (cond below ((cell, u) ∷ t ∷ ts) (t ∷ insert_by cell_key (cell, u) ts))) ≡ (if eqb cell c then true else has c (cells_of (t ∷ ts)))
-    at true same here rest = refl
-    at false same here rest = grind (arith, nat_tests, rest)
 
 pub among_inserted : (x : ℕ × ℕ) (held : List (ℕ × ℕ)) → Among x (insert_by cell_key x held)
 among_inserted x [] = inl refl
@@ -95,11 +88,11 @@ module _ {M D : Type 0} where
 
 module _ {M D : Type 0} (table : TableState M) (version : ℕ) where
   -- a lock is taken, and what is observed afterwards still fits
-  pub attempt_locks : (p mid q : PassState M D) (reads after : Observed) (writes : Levels) (held wide more : Listed) (committing : Bool) (cell u : ℕ) → IsAttempt table p version reads writes held committing → mid ≡ record p { places = mid.places } → wide.entries ≡ held.entries → Takes mid q cell u → IsPassOf table q → p.view.stage ≡ Open → more.entries ≡ wide.entries ++ (cell, u) ∷ [] → cell < length table.opening
+  pub attempt_locks : (p mid q : PassState M D) (reads after : Observed) (writes : Entries) (held wide more : Listed) (committing : Bool) (cell u : ℕ) → IsAttempt table p version reads writes held committing → mid ≡ record p { places = mid.places } → wide.entries ≡ held.entries → Takes mid q cell u → IsPassOf table q → p.view.stage ≡ Open → more.entries ≡ wide.entries ++ (cell, u) ∷ [] → cell < length table.opening
       → length after.versions ≡ length after.observations
       → ((i : ℕ) → i < length after.observations → IsSeen q.view version (cell_at after.observations i) (word_of after.observations i) (slice_index after.versions i))
       → (committing ≡ false → (i : ℕ) → i < length after.observations → slice_index after.versions i ≤ version)
-      → ((c : ℕ) → word_at after.observations c ≡ None → word_at writes.parent c ≡ None → has c (cells_of q.view.held) ≡ false)
+      → ((c : ℕ) → word_at after.observations c ≡ None → word_at writes c ≡ None → has c (cells_of q.view.held) ≡ false)
       → ((i : ℕ) → i < length after.observations → has (cell_at after.observations i) (cells_of q.view.held) ≡ true → Among (cell_at after.observations i, slice_index after.versions i) q.view.held)
       → IsAttempt table q version after writes more committing
   attempt_locks p mid q reads after writes held wide more committing cell u a same entries t of stage pushed there sized observed early met pinned =
@@ -112,7 +105,7 @@ module _ {M D : Type 0} (table : TableState M) (version : ℕ) where
         begun = (rw (ap (λ (s : PassState M D). s.seen) t.is ∙ ap (λ (s : PassState M D). s.seen) same) a.begun.0, rw (t.known ∙ ap (λ (v : View M D). v.known) view) a.begun.1);
         observed = observed;
         written = a.written;
-        no_child = a.no_child;
+            listed = kept ∙ ap (insert_by cell_key (cell, u)) a.listed ∙ sym (held_of_more held.entries (cell, u)) ∙ ap held_of (sym all);
         holds = λ c. ap (λ h. has c (cells_of h)) kept ∙ has_insert c cell u p.view.held ∙ ap (λ b. if eqb cell c then true else b) (a.holds c) ∙ sym (word_at-add held.entries cell u c) ∙ ap (λ es. is_some (word_at es c)) (sym all);
         in_table = rw (all, map_push (λ (e : ℕ × ℕ). e.0) held.entries (cell, u)) (All-push (λ c. c < length table.opening) (keys_of held.entries) cell a.in_table there);
         sized = sized;
@@ -126,8 +119,8 @@ module _ {M D : Type 0} (table : TableState M) (version : ℕ) where
       }
 
   -- the cell was observed at the version that it is locked at, or it was written alone
-  pub attempt_locks_known : (p mid q : PassState M D) (reads : Observed) (writes : Levels) (held wide more : Listed) (committing : Bool) (cell u : ℕ) → IsAttempt table p version reads writes held committing → mid ≡ record p { places = mid.places } → wide.entries ≡ held.entries → Takes mid q cell u → IsPassOf table q → p.view.stage ≡ Open → more.entries ≡ wide.entries ++ (cell, u) ∷ [] → cell < length table.opening
-      → (word_at reads.observations cell ≡ None → word_at writes.parent cell ≡ None → ⊥)
+  pub attempt_locks_known : (p mid q : PassState M D) (reads : Observed) (writes : Entries) (held wide more : Listed) (committing : Bool) (cell u : ℕ) → IsAttempt table p version reads writes held committing → mid ≡ record p { places = mid.places } → wide.entries ≡ held.entries → Takes mid q cell u → IsPassOf table q → p.view.stage ≡ Open → more.entries ≡ wide.entries ++ (cell, u) ∷ [] → cell < length table.opening
+      → (word_at reads.observations cell ≡ None → word_at writes cell ≡ None → ⊥)
       → ((i : ℕ) → i < length reads.observations → cell_at reads.observations i ≡ cell → slice_index reads.versions i ≡ u)
       → IsAttempt table q version reads writes more committing
   attempt_locks_known p mid q reads writes held wide more committing cell u a same entries t of stage pushed there known at_u =
@@ -158,7 +151,7 @@ module _ {M D : Type 0} (table : TableState M) (version : ℕ) where
       ]
 
   -- the cell was neither observed nor written, and is observed with its lock
-  pub attempt_locks_new : (p mid q : PassState M D) (reads after : Observed) (writes : Levels) (held wide more : Listed) (committing : Bool) (cell u x : ℕ) → IsAttempt table p version reads writes held committing → mid ≡ record p { places = mid.places } → wide.entries ≡ held.entries → Takes mid q cell u → IsPassOf table q → p.view.stage ≡ Open → more.entries ≡ wide.entries ++ (cell, u) ∷ [] → cell < length table.opening
+  pub attempt_locks_new : (p mid q : PassState M D) (reads after : Observed) (writes : Entries) (held wide more : Listed) (committing : Bool) (cell u x : ℕ) → IsAttempt table p version reads writes held committing → mid ≡ record p { places = mid.places } → wide.entries ≡ held.entries → Takes mid q cell u → IsPassOf table q → p.view.stage ≡ Open → more.entries ≡ wide.entries ++ (cell, u) ∷ [] → cell < length table.opening
       → word_at reads.observations cell ≡ None → after.observations ≡ reads.observations ++ (cell, x) ∷ [] → after.versions ≡ reads.versions ++ u ∷ [] → IsSeen q.view version cell x u → (committing ≡ false → u ≤ version)
       → IsAttempt table q version after writes more committing
   attempt_locks_new p mid q reads after writes held wide more committing cell u x a same entries t of stage pushed there unobserved observations versions seen low =

@@ -8,55 +8,66 @@ use Rattle.cell_table.specs.Pass.{PassState}
 use Rattle.attempt_lists.specs.Cells.{Listed}
 use Rattle.attempt_lists.specs.Levels.{Levels}
 use Rattle.attempt_lists.specs.Observed.{Observed}
-use Rattle.attempt_lists.specs.Parts.{Waiting, waiting_of, ChangesOnly}
+use Rattle.attempt_lists.specs.Parts.{Waiting, waiting_of, marked_of, ChangesOnly}
 use Rattle.tx_core.specs.declared.spare.Spare.{Spare}
-use Rattle.tx_core.specs.Additions.{IsProvided, HasSpare, HasTwoEach, promised, waiting_in, more_spare}
+use Rattle.tx_core.specs.Additions.{IsProvided, HasSpare, HasTwoFor, HasTwoEach, promised, count_in, more_spare}
 
-waiting_none : (additions : List Waiting) → ((part : ℕ) → waiting_of additions part ≡ []) → (parts : List ℕ) → waiting_in additions parts ≡ 0
-waiting_none additions none [] = refl
-waiting_none additions none (part ∷ parts) = omega (arith, ap length (none part), waiting_none additions none parts)
+count_none : (f : ℕ → List ℕ) → ((part : ℕ) → f part ≡ []) → (parts : List ℕ) → count_in f parts ≡ 0
+count_none f none [] = refl
+count_none f none (part ∷ parts) = omega (arith, ap length (none part), count_none f none parts)
 
--- nothing waits, and nothing is kept
-pub twice_none : (additions : List Waiting) → ((part : ℕ) → waiting_of additions part ≡ []) → HasTwoEach (record { locks = 0; observations = 0; writes = 0 }) additions
-twice_none additions none parts once = let at = waiting_none additions none parts in (omega (arith, at), omega (arith, at), omega (arith, at))
+-- there is nothing, and nothing is kept
+pub two_none : (f : ℕ → List ℕ) → ((part : ℕ) → f part ≡ []) → HasTwoFor (record { locks = 0; observations = 0; writes = 0 }) f
+two_none f none parts once = let at = count_none f none parts in (omega (arith, at), omega (arith, at), omega (arith, at))
 
 -- additions to another part change nothing of these
-waiting_others : (a b : List Waiting) (part : ℕ) → ((q : ℕ) → q ≢ part → waiting_of b q ≡ waiting_of a q) → (parts : List ℕ) → AllByRecursion (λ q. nat_eq part q ≡ false) parts → waiting_in b parts ≡ waiting_in a parts
-waiting_others a b part others [] apart = refl
-waiting_others a b part others (q ∷ parts) apart =
+count_others : (f g : ℕ → List ℕ) (part : ℕ) → ((q : ℕ) → q ≢ part → g q ≡ f q) → (parts : List ℕ) → AllByRecursion (λ q. nat_eq part q ≡ false) parts → count_in g parts ≡ count_in f parts
+count_others f g part others [] apart = refl
+count_others f g part others (q ∷ parts) apart =
     let far : q ≢ part = λ same. grind (arith, nat_tests, same, apart.0) in
-    omega (arith, ap length (others q far), waiting_others a b part others parts apart.1)
+    omega (arith, ap length (others q far), count_others f g part others parts apart.1)
 
 -- one more addition is one more in at most one of distinct parts
-waiting_later : (a b : List Waiting) (part value : ℕ) → ChangesOnly a b part (waiting_of a part ++ value ∷ []) → (parts : List ℕ) → IsDistinct nat_eq parts → waiting_in b parts ≤ waiting_in a parts + 1
+count_later : (f g : ℕ → List ℕ) (part value : ℕ) → g part ≡ f part ++ value ∷ [] → ((q : ℕ) → q ≢ part → g q ≡ f q) → (parts : List ℕ) → IsDistinct nat_eq parts → count_in g parts ≤ count_in f parts + 1
 unfolding IsDistinct
-waiting_later a b part value changes [] once = omega arith
-waiting_later a b part value changes (q ∷ parts) once = elim (ℕ_discrete q part) [
-  | yes same ↦ omega (arith, ap length (ap (waiting_of b) same ∙ changes.changed), length_push (waiting_of a part) value, ap length (ap (waiting_of a) same), waiting_others a b part changes.others parts (rw (← same) once.0))
-  | no far ↦ omega (arith, ap length (changes.others q far), waiting_later a b part value changes parts once.1)
+count_later f g part value changed others [] once = omega arith
+count_later f g part value changed others (q ∷ parts) once = elim (ℕ_discrete q part) [
+  | yes same ↦ omega (arith, ap length (ap g same ∙ changed), length_push (f part) value, ap length (ap f same), count_others f g part others parts (rw (← same) once.0))
+  | no far ↦ omega (arith, ap length (others q far), count_later f g part value changed others parts once.1)
 ]
 
 -- for one part
-pub twice_each : (spare : Spare) (additions : List Waiting) → HasTwoEach spare additions → (part : ℕ) → HasSpare spare (2 * length (waiting_of additions part))
+pub two_each : (spare : Spare) (f : ℕ → List ℕ) → HasTwoFor spare f → (part : ℕ) → HasSpare spare (2 * length (f part))
 unfolding IsDistinct
-twice_each spare additions has part = let both = has (part ∷ []) (tt, tt) in (omega (arith, both.0), omega (arith, both.1), omega (arith, both.2))
+two_each spare f has part = let both = has (part ∷ []) (tt, tt) in (omega (arith, both.0), omega (arith, both.1), omega (arith, both.2))
 
-pub twice_later : (spare : Spare) (a b : List Waiting) (part value : ℕ) → HasTwoEach spare a → ChangesOnly a b part (waiting_of a part ++ value ∷ []) → HasTwoEach (more_spare 2 spare) b
-twice_later spare a b part value has changes parts once =
+pub two_later : (spare : Spare) (a b : List Waiting) (part value : ℕ) → HasTwoEach spare a → ChangesOnly a b part (waiting_of a part ++ value ∷ []) → HasTwoEach (more_spare 2 spare) b
+two_later spare a b part value has changes parts once =
     let old = has parts once in
-    let more = waiting_later a b part value changes parts once in
+    let more = count_later (waiting_of a) (waiting_of b) part value changes.changed changes.others parts once in
     (omega (arith, old.0, more), omega (arith, old.1, more), omega (arith, old.2, more))
 
-waiting_fewer : (a b : List Waiting) → ((q : ℕ) → length (waiting_of b q) ≤ length (waiting_of a q)) → (parts : List ℕ) → waiting_in b parts ≤ waiting_in a parts
-waiting_fewer a b fewer [] = omega arith
-waiting_fewer a b fewer (q ∷ parts) = omega (arith, fewer q, waiting_fewer a b fewer parts)
+count_fewer : (f g : ℕ → List ℕ) → ((q : ℕ) → length (g q) ≤ length (f q)) → (parts : List ℕ) → count_in g parts ≤ count_in f parts
+count_fewer f g fewer [] = omega arith
+count_fewer f g fewer (q ∷ parts) = omega (arith, fewer q, count_fewer f g fewer parts)
+
+-- for fewer as much is kept
+pub two_fewer : (spare : Spare) (f g : ℕ → List ℕ) → HasTwoFor spare f → ((q : ℕ) → length (g q) ≤ length (f q)) → HasTwoFor spare g
+two_fewer spare f g has fewer parts once =
+    let old = has parts once in
+    let less = count_fewer f g fewer parts in
+    (omega (arith, old.0, less), omega (arith, old.1, less), omega (arith, old.2, less))
+
+pub two_same : (spare : Spare) (f g : ℕ → List ℕ) → HasTwoFor spare f → ((q : ℕ) → g q ≡ f q) → HasTwoFor spare g
+two_same spare f g has same = two_fewer spare f g has (λ q. omega (arith, ap length (same q)))
+
+-- more is kept
+pub two_more : (spare : Spare) (f : ℕ → List ℕ) → HasTwoFor spare f → HasTwoFor (more_spare 2 spare) f
+two_more spare f has parts once = let old = has parts once in (omega (arith, old.0), omega (arith, old.1), omega (arith, old.2))
 
 -- what is consumed waits no more
-pub twice_taken : (spare : Spare) (a b : List Waiting) (part value : ℕ) → HasTwoEach spare a → waiting_of a part ≡ value ∷ waiting_of b part → ((q : ℕ) → q ≢ part → waiting_of b q ≡ waiting_of a q) → HasTwoEach spare b
-twice_taken spare a b part value has first others parts once =
-    let old = has parts once in
-    let less = waiting_fewer a b fewer parts in
-    (omega (arith, old.0, less), omega (arith, old.1, less), omega (arith, old.2, less))
+two_taken : (spare : Spare) (a b : List Waiting) (part value : ℕ) → HasTwoEach spare a → waiting_of a part ≡ value ∷ waiting_of b part → ((q : ℕ) → q ≢ part → waiting_of b q ≡ waiting_of a q) → HasTwoEach spare b
+two_taken spare a b part value has first others = two_fewer spare (waiting_of a) (waiting_of b) has fewer
   where
     fewer : (q : ℕ) → length (waiting_of b q) ≤ length (waiting_of a q)
     fewer q = elim (ℕ_discrete q part) [
@@ -64,9 +75,13 @@ twice_taken spare a b part value has first others parts once =
       | no far ↦ omega (arith, ap length (others q far))
     ]
 
-pub twice_after : (spare : Spare) (a b : List Waiting) (part : ℕ) (taken : Option ℕ) → HasTwoEach spare a → MatchOption taken ((waiting_of a part ≡ []) × (b ≡ a)) (λ value. (waiting_of a part ≡ value ∷ waiting_of b part) × ChangesOnly a b part (waiting_of b part)) → HasTwoEach spare b
-twice_after spare a b part None has same = rw same.1 has
-twice_after spare a b part (Some value) has changes = twice_taken spare a b part value has changes.0 changes.1.others
+pub two_after : (spare : Spare) (a b : List Waiting) (part : ℕ) (taken : Option ℕ) → HasTwoEach spare a → MatchOption taken ((waiting_of a part ≡ []) × (b ≡ a)) (λ value. (waiting_of a part ≡ value ∷ waiting_of b part) × ChangesOnly a b part (waiting_of b part)) → HasTwoEach spare b
+two_after spare a b part None has same = rw same.1 has
+two_after spare a b part (Some value) has changes = two_taken spare a b part value has changes.0 changes.1.others
+
+pub marked_after : (a b : List Waiting) (part : ℕ) (taken : Option ℕ) → MatchOption taken ((waiting_of a part ≡ []) × (b ≡ a)) (λ value. (waiting_of a part ≡ value ∷ waiting_of b part) × ChangesOnly a b part (waiting_of b part)) → (q : ℕ) → marked_of b q ≡ marked_of a q
+marked_after a b part None same q = ap (λ (w : List Waiting). marked_of w q) same.1
+marked_after a b part (Some value) changes q = changes.1.marked q
 
 -- a write takes one place where its cell wasn't written
 pub left_fits : (b : Bool) (spare reserved left now : ℕ) → left ≡ spare - (if b then 0 else 1) → now + (if b then 0 else 1) ≡ reserved → spare ≤ reserved → (left ≤ now) × (left ≤ spare)
@@ -75,8 +90,8 @@ left_fits false spare reserved left now l n le = (omega (arith, l, n, le), omega
 
 module _ {M D : Type 0} where
   -- other additions wait, for which as much is kept
-  pub provided_adds : (p : PassState M D) (reads : Observed) (writes : Levels) (held : Listed) (additions more : List Waiting) (spare kept : Spare) (committing : Bool) → IsProvided p reads writes held additions spare committing → kept.locks ≤ held.reserved → kept.observations ≤ reads.reserved → kept.writes ≤ writes.reserved → (kept.locks < 2 ^ 32) × (kept.observations < 2 ^ 32) × (kept.writes < 2 ^ 32) → (committing ≡ false → promised writes kept.locks ≤ held.reserved) → (committing ≡ false → HasTwoEach kept more) → IsProvided p reads writes held more kept committing
-  provided_adds p reads writes held additions more spare kept committing a locks observations written few room twice = record {
+  pub provided_adds : (p : PassState M D) (reads : Observed) (writes : Levels) (held : Listed) (additions more : List Waiting) (spare kept : Spare) (committing : Bool) → IsProvided p reads writes held additions spare committing → kept.locks ≤ held.reserved → kept.observations ≤ reads.reserved → kept.writes ≤ writes.reserved → (kept.locks < 2 ^ 32) × (kept.observations < 2 ^ 32) × (kept.writes < 2 ^ 32) → (committing ≡ false → promised writes kept.locks ≤ held.reserved) → (committing ≡ false → HasTwoEach kept more) → (committing ≡ false → HasTwoFor kept (marked_of more)) → IsProvided p reads writes held more kept committing
+  provided_adds p reads writes held additions more spare kept committing a locks observations written few room twice marks = record {
     locks = a.locks;
     spare_locks = locks;
     spare_observations = observations;
@@ -84,6 +99,7 @@ module _ {M D : Type 0} where
     few = few;
     room = room;
     twice = twice;
+    marked = marks;
   }
 
 module _ {M D : Type 0} where
@@ -97,6 +113,7 @@ module _ {M D : Type 0} where
     few = a.few;
     room = room;
     twice = a.twice;
+    marked = a.marked;
   }
 
   -- a pass with as many places
@@ -113,6 +130,7 @@ module _ {M D : Type 0} where
     few = a.few;
     room = λ before. absurd (true_false before);
     twice = λ before. absurd (true_false before);
+    marked = λ before. absurd (true_false before);
   }
     where
       true_false : true ≡ false → ⊥
@@ -129,6 +147,7 @@ module _ {M D : Type 0} where
     few = (omega (arith, a.few.0), a.few.1, a.few.2);
     room = λ early. cc;
     twice = λ early. cc;
+    marked = λ early. cc;
   }
 
   -- and so does an observation
@@ -141,4 +160,5 @@ module _ {M D : Type 0} where
     few = (a.few.0, omega (arith, a.few.1), a.few.2);
     room = λ early. cc;
     twice = λ early. cc;
+    marked = λ early. cc;
   }

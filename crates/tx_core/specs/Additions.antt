@@ -5,21 +5,25 @@ use Rattle.cell_table.specs.Pass.{PassState}
 use Rattle.attempt_lists.specs.Cells.{Listed}
 use Rattle.attempt_lists.specs.Levels.{Levels}
 use Rattle.attempt_lists.specs.Observed as lists
-use Rattle.attempt_lists.specs.Parts.{Waiting, waiting_of}
+use Rattle.attempt_lists.specs.Parts.{Waiting, waiting_of, marked_of}
 use Rattle.tx_core.specs.declared.spare.Spare.{Spare}
 
--- how many additions to these parts wait
-abbrev pub waiting_in : List Waiting → List ℕ → ℕ
-waiting_in additions [] = 0
-waiting_in additions (part ∷ parts) = length (waiting_of additions part) + waiting_in additions parts
+-- how many items these parts have together
+abbrev pub count_in : (ℕ → List ℕ) → List ℕ → ℕ
+count_in items [] = 0
+count_in items (part ∷ parts) = length (items part) + count_in items parts
 
 -- n places of each kind are kept
 abbrev pub HasSpare : Spare → ℕ → Type 0
 HasSpare spare n = (n ≤ spare.locks) × (n ≤ spare.observations) × (n ≤ spare.writes)
 
--- for each addition to any parts there are two places of each kind
+-- for each item of any parts there are two places of each kind
+abbrev pub HasTwoFor : Spare → (ℕ → List ℕ) → Type 0
+HasTwoFor spare items = (parts : List ℕ) → IsDistinct nat_eq parts → HasSpare spare (2 * count_in items parts)
+
+-- for each addition that waits
 abbrev pub HasTwoEach : Spare → List Waiting → Type 0
-HasTwoEach spare additions = (parts : List ℕ) → IsDistinct nat_eq parts → HasSpare spare (2 * waiting_in additions parts)
+HasTwoEach spare additions = HasTwoFor spare (waiting_of additions)
 
 -- the places for locks that are promised: one for each write of both levels, and those that are kept for additions
 abbrev pub promised : Levels → ℕ → ℕ
@@ -39,3 +43,5 @@ pub record IsProvided {M D : Type 0} (pass : PassState M D) (reads : lists.Obser
   -- before the commit there is room for a lock of each cell that is written, beside what is kept for the additions
   pub room : committing ≡ false → promised writes spare.locks ≤ held.reserved
   pub twice : committing ≡ false → HasTwoEach spare additions
+  -- what waited at the mark may come back
+  pub marked : committing ≡ false → HasTwoFor spare (marked_of additions)

@@ -1,5 +1,5 @@
 -- Which calls of an attempt may follow, what the attempt knows, and what a call leaves of it.
-use Rattle.std.specs.Prelude.{◌≡◌, ◌≢◌, ℕ, ◌<◌, ◌≤◌, ◌+◌, ◌-◌, ◌⊎◌, Bool, true, false, List, [], ◌++◌, length, slice_index, Option, Some, None, IsSome, Result, Ok, Err}
+use Rattle.std.specs.Prelude.{◌≡◌, ◌≢◌, ℕ, ◌<◌, ◌≤◌, ◌+◌, ◌-◌, ◌⊎◌, Bool, true, false, List, [], ◌++◌, length, take, slice_index, Option, Some, None, IsSome, Result, Ok, Err}
 use Rattle.std.specs.Option.{option_or}
 use Rattle.cell_table.specs.Cells.{has, after}
 use Rattle.cell_table.specs.Sorted.{Each, Among, insert_by}
@@ -15,6 +15,8 @@ use Rattle.tx_core.specs.declared.stop.Stop.TheVariants.{Held, Newer, Memory}
 use Rattle.tx_core.specs.declared.stop.TxState.{TxState}
 use Rattle.tx_core.specs.declared.stop.TxState.TheVariants.{Running, Child, ChildStopped, Stopped}
 use Rattle.tx_core.specs.Causes.{CausedSince, IsFound, GrewBy, begun_of}
+use Rattle.tx_core.specs.Children.{Marked}
+use Rattle.tx_core.specs.Seen.{Releases}
 use Rattle.tx_core.specs.Tx.{Attempt, Observed}
 
 -- ---- how an attempt stands
@@ -86,6 +88,11 @@ module _ {M D : Type 0} where
     pub open_now : IsOpen a.state
     pub before_commit : a.committing ≡ false
 
+  -- no child is open and the commit hasn't begun, so its first call may follow
+  pub record MayCommit (a : Attempt M D) : Type 0 where
+    pub running : a.state ≡ Running
+    pub before_commit : a.committing ≡ false
+
   -- what the attempt has of a cell: its own write, else what it observed
   abbrev pub known : Attempt M D → ℕ → Option ℕ
   known a cell = option_or (word_at a.writes cell) (word_at a.observations cell)
@@ -129,6 +136,7 @@ module _ {M D : Type 0} where
     pub additions : new.additions ≡ old.additions
     pub spare : new.spare ≡ old.spare
     pub committing : new.committing ≡ old.committing
+    pub mark : new.mark ≡ old.mark
 
   -- the attempt is as before, or observed a cell of which it had nothing
   abbrev pub MayObserve : Attempt M D → Attempt M D → ℕ → Type 0
@@ -174,6 +182,26 @@ module _ {M D : Type 0} where
   -- the cause of the stop lies between these two moments of the attempt
   abbrev pub CausedIn : Attempt M D → Attempt M D → Stop → Type 0
   CausedIn old new stop = CausedSince (callers_of old.pass.view.books) old.version (length (trail_of old.pass)) (trail_of new.pass) stop
+
+  -- ---- children
+
+  -- what the attempt has now, for a child to go back to
+  abbrev pub mark_of : Attempt M D → Marked
+  mark_of a = record { observations = length a.observations; notes = length a.notes; writes = a.writes; held = a.pass.view.held }
+
+  -- the same additions wait, and all of them are marked
+  abbrev pub MarksWaiting : Attempt M D → Attempt M D → Type 0
+  MarksWaiting old new = (part : ℕ) → (waiting_of new.additions part ≡ waiting_of old.additions part) × (marked_of new.additions part ≡ waiting_of old.additions part)
+
+  -- The attempt runs as at the mark m: it has the observations, writes, notes, additions and held cells of then. Each cell that was locked since was given back by one step
+  pub record GoesBack (old new : Attempt M D) (m : Marked) : Type 0 where
+    pub is : new ≡ record old { pass = new.pass; state = Running; observations = take m.observations old.observations; versions = take m.observations old.versions; writes = m.writes; notes = take m.notes old.notes; additions = new.additions; mark = None }
+    pub additions : (part : ℕ) → (waiting_of new.additions part ≡ marked_of old.additions part) × (marked_of new.additions part ≡ marked_of old.additions part)
+    pub held : new.pass.view.held ≡ m.held
+    pub pass : Releases old.pass new.pass
+    pub steps : GrewBy (length old.pass.view.held - length m.held) (trail_of old.pass) (trail_of new.pass)
+
+  -- ---- stops
 
   -- The call stopped the attempt: at a cell with P, with the cause in this call, or by want of memory. Nothing else stops a sole pass
   pub record StopsAt (P : ℕ → Type 0) (old new : Attempt M D) (stop : Stop) : Type 0 where

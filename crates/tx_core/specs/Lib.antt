@@ -1,5 +1,6 @@
 pub mod Additions
 pub mod Causes
+pub mod Children
 pub mod Seen
 pub mod Stored
 pub mod Tx

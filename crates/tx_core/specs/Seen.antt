@@ -3,7 +3,8 @@ use Rattle.std.specs.Prelude.{◌≡◌, ◌≢◌, ℕ, ◌-◌, ◌*◌, ◌^�
 use Rattle.cell_table.specs.declared.view.View.{View}
 use Rattle.cell_table.specs.Cells.{has}
 use Rattle.cell_table.specs.Rule.{cells_of}
-use Rattle.cell_table.specs.Sorted.{insert_by}
+use Rattle.cell_table.specs.declared.view.Stage.TheVariants.{Open}
+use Rattle.cell_table.specs.Sorted.{insert_by, Among}
 use Rattle.cell_table.specs.Steps.{Grows, Reads, Validated, cell_key}
 use Rattle.cell_table.specs.Pass.{PassState, with_view}
 use Rattle.attempt_lists.specs.Cells.{Entries, cell_at}
@@ -82,6 +83,16 @@ module _ {M D : Type 0} where
     pub known : q.view.known ≡ p.view.known
     pub stage : q.view.stage ≡ p.view.stage
     pub begun : begun_of q.view.trail ≡ begun_of p.view.trail
+
+  -- Cells were given back before anything was decided or after all was stored: the attempt of the view has come no further, and those that are held have the versions that they had
+  pub record Releases (p q : PassState M D) : Type 0 where
+    pub gives : GivesBack p q
+    pub callers : q.view.books ≡ p.view.books
+    pub opens : p.view.stage ≡ Open → q.view.stage ≡ Open
+    pub begun : begun_of q.view.trail ≡ begun_of p.view.trail
+    pub places : p.places ≤ q.places
+    pub fewer : (c : ℕ) → has c (cells_of q.view.held) ≡ true → has c (cells_of p.view.held) ≡ true
+    pub kept : (t : ℕ × ℕ) → Among t p.view.held → has t.0 (cells_of q.view.held) ≡ true → Among t q.view.held
 
   -- the view knows more, and its attempt has come no further
   pub record KnowsMore (p q : PassState M D) : Type 0 where

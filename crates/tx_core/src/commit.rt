@@ -12,7 +12,7 @@ impl<'a, M: Meaning> Tx<'a, M> {
     ghost use Rattle.cell_table.specs.Steps.{IsIdle, Grows};
     ghost use Rattle.cell_table.specs.Pass.{IsHeld, IsPassOf, IsSole, note, trail_of, version_drawn};
     ghost use Rattle.attempt_lists.specs.Cells.{word_at};
-    ghost use Rattle.tx_core.specs.Calls.{IsOpen, MayCall, NothingWaits, HoldsWrites, IsDrawn, stopped_from, stop_in, newly_held, HoldsAt};
+    ghost use Rattle.tx_core.specs.Calls.{IsOpen, MayCommit, NothingWaits, HoldsWrites, IsDrawn, stopped_from, stop_in, newly_held, HoldsAt};
     ghost use Rattle.tx_core.specs.Causes.{FoundTwice, IsFoundAt, IsOfOne, GrewBy};
 
     /// Takes the locks of the written cells that aren't held yet, in ascending order. Takes no memory.
@@ -20,7 +20,7 @@ impl<'a, M: Meaning> Tx<'a, M> {
     /// A cell that was only written may have any version. An observed one is taken from the version that was observed. After
     /// a stop the attempt is stopped, and the locks that were taken stay until `abort`.
     pub fn lock_writes(&mut self) -> Result<(), Stop>
-        requires callable { MayCall self.old }
+        requires callable { MayCommit self.old }
         ensures all_held { OnOk result (HoldsWrites self.new) }
         ensures same { OnOk result (self.new ≡ record self.old { pass = self.new.pass; committing = true }) }
         ensures stopped { IfErr result (λ stop. IsOfOne self.old.writes stop × (self.new ≡ record self.old { pass = self.new.pass; state = stopped_from self.old.state; committing = true })) }
@@ -85,6 +85,7 @@ impl<'a, M: Meaning> Tx<'a, M> {
             spare: _,
             state: _,
             committing: _,
+            mark: _,
         } = self;
         store_all(
             table,

@@ -1,15 +1,13 @@
 //! The locks of an attempt: room for them, and how they are given back.
-ghost use Rattle.std.specs.Prelude.{◌≡◌, ℕ, ◌+◌, ◌<◌, ◌≤◌, [], length, is_some, All, OnOk, OnErr};
+ghost use Rattle.std.specs.Prelude.{◌≡◌, ℕ, ◌+◌, ◌-◌, ◌<◌, ◌≤◌, [], length, take, All, OnOk, OnErr};
 ghost use Rattle.std.specs.Map.{keys_of};
-ghost use Rattle.cell_table.specs.Cells.{has};
-ghost use Rattle.cell_table.specs.Rule.{cells_of};
 ghost use Rattle.cell_table.specs.declared.view.Stage.TheVariants.{Open};
 ghost use Rattle.cell_table.specs.Steps.{IsStoredOrUndecided, IsIdle};
 ghost use Rattle.cell_table.specs.Pass.{IsPassOf, trail_of};
-ghost use Rattle.attempt_lists.specs.Cells.{word_at};
 ghost use Rattle.tx_core.specs.Additions.{promised};
 ghost use Rattle.tx_core.specs.Causes.{GrewBy};
-ghost use Rattle.tx_core.specs.Seen.{GivesBack};
+ghost use Rattle.tx_core.specs.Children.{held_of};
+ghost use Rattle.tx_core.specs.Seen.{GivesBack, Releases};
 
 use attempt_lists::{CellList, WriteSet};
 use cell_table::{CellTable, Meaning, Pass};
@@ -62,14 +60,44 @@ pub(crate) fn reserve_more_locks<M: Meaning>(
     held.reserve(more as usize)
 }
 
-/// Gives all held cells back, the last one first, while nothing is decided or once all values are stored.
+/// Gives back the cells that were locked after the first `len` ones, the last one first, while nothing is decided or once all
+/// values are stored.
+pub(crate) fn give_back_to<M: Meaning>(
+    table: &CellTable<M>,
+    pass: &mut Pass<M>,
+    held: &mut CellList,
+    len: usize,
+)
+    requires of { IsPassOf table.now pass.old }
+    requires listed { pass.old.view.held ≡ held_of held.old.entries }
+    requires in_table { All (λ c. c < length table.now.opening) (keys_of held.old.entries) }
+    requires len { len ≤ length held.old.entries }
+    requires stored { IsStoredOrUndecided pass.old.view.stage }
+    requires undrawn { pass.old.view.held ≡ [] → pass.old.view.stage ≡ Open }
+    ensures of { IsPassOf table.now pass.new }
+    ensures entries { held.new.entries ≡ take len held.old.entries }
+    ensures reserved { held.new.reserved ≡ held.old.reserved }
+    ensures held { pass.new.view.held ≡ held_of held.new.entries }
+    ensures undrawn { pass.new.view.held ≡ [] → pass.new.view.stage ≡ Open }
+    ensures releases { Releases pass.old pass.new }
+    ensures steps { GrewBy (length held.old.entries - len) (trail_of pass.old) (trail_of pass.new) }
+{
+    while held.len() > len {
+        let Some((cell, _)) = held.pop() else {
+            unreachable!()
+        };
+        table.give_back(pass, cell);
+    }
+}
+
+/// Gives all held cells back.
 pub(crate) fn give_back_all<M: Meaning>(
     table: &CellTable<M>,
     pass: &mut Pass<M>,
     mut held: CellList,
 )
     requires of { IsPassOf table.now pass.old }
-    requires holds { (c : ℕ) → has c (cells_of pass.old.view.held) ≡ is_some (word_at held.entries c) }
+    requires listed { pass.old.view.held ≡ held_of held.entries }
     requires in_table { All (λ c. c < length table.now.opening) (keys_of held.entries) }
     requires stored { IsStoredOrUndecided pass.old.view.stage }
     requires undrawn { pass.old.view.held ≡ [] → pass.old.view.stage ≡ Open }
@@ -78,9 +106,5 @@ pub(crate) fn give_back_all<M: Meaning>(
     ensures gives { GivesBack pass.old pass.new }
     ensures steps { GrewBy (length pass.old.view.held) (trail_of pass.old) (trail_of pass.new) }
 {
-    // No cell is listed twice.
-    held.once_law();
-    while let Some((cell, _)) = held.pop() {
-        table.give_back(pass, cell);
-    }
+    give_back_to(table, pass, &mut held, 0);
 }

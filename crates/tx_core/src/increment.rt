@@ -3,7 +3,7 @@ ghost use Rattle.std.specs.Prelude.{◌≡◌, ℕ, ◌+◌, ◌-◌, ◌^◌, �
 ghost use Rattle.cell_table.specs.Steps.{IsIdle, Grows};
 ghost use Rattle.cell_table.specs.Pass.{IsPassOf, IsSole, note};
 ghost use Rattle.tx_core.specs.Stored.{cells_left};
-ghost use Rattle.tx_core.specs.Calls.{MayCall, NothingWaits};
+ghost use Rattle.tx_core.specs.Calls.{MayCommit, NothingWaits};
 
 use crate::tx::Tx;
 use crate::untold::Untold;
@@ -13,7 +13,7 @@ use std::test::Fail;
 
 /// Commits an attempt of a pass with every caller number: nothing can stop it.
 fn commit_alone(mut tx: Tx<'_, Untold>) -> Pass<Untold>
-    requires callable { MayCall tx }
+    requires callable { MayCommit tx }
     requires resolved { NothingWaits tx }
     requires some_write { 0 < length tx.writes }
     requires sole { IsSole tx.pass }
@@ -35,12 +35,12 @@ fn commit_alone(mut tx: Tx<'_, Untold>) -> Pass<Untold>
 
 /// Writes one more than the value of the cell.
 fn add_one(tx: &mut Tx<'_, Untold>, cell: u32) -> Result<(), AllocError>
-    requires callable { MayCall tx.old }
+    requires callable { MayCommit tx.old }
     requires fresh { (tx.old.observations ≡ []) × (tx.old.writes ≡ []) × NothingWaits tx.old }
     requires sole { IsSole tx.old.pass }
     requires cell { cell < length tx.old.table.opening }
     requires small { slice_index (cells_left tx.old.pass) cell + 1 < 2 ^ 64 }
-    ensures callable { OnOk result (MayCall tx.new × NothingWaits tx.new) }
+    ensures callable { OnOk result (MayCommit tx.new × NothingWaits tx.new) }
     ensures wrote { OnOk result (tx.new.writes ≡ (cell, slice_index (cells_left tx.old.pass) cell + 1) ∷ []) }
     ensures same { (tx.new.table ≡ tx.old.table) × (tx.new.version ≡ tx.old.version) × (tx.new.pass.books ≡ tx.old.pass.books) × (tx.new.pass.view.draws ≡ tx.old.pass.view.draws) }
     ensures grows { Grows tx.old.pass.view tx.new.pass.view }

@@ -19,7 +19,8 @@ impl<'a, M: Meaning> Tx<'a, M> {
     ghost use Rattle.cell_table.specs.Steps.{Observes};
     ghost use Rattle.cell_table.specs.Pass.{IsSole, IsHeld, trail_of};
     ghost use Rattle.attempt_lists.specs.Cells.{word_at, word_of, cell_at, put};
-    ghost use Rattle.tx_core.specs.Calls.{IsOpen, stopped_from, stop_in, CausedIn, Locks, TouchesOnly, StepsAt, HoldsAt};
+    ghost use Rattle.tx_core.specs.Calls.{stopped_from, stop_in, CausedIn, Locks, TouchesOnly, StepsAt, HoldsAt};
+    ghost use Rattle.tx_core.specs.declared.stop.TxState.TheVariants.{Running};
     ghost use Rattle.tx_core.specs.Causes.{FoundTwice, IsFoundAt, IsFound, GrewBy};
     ghost use Rattle.tx_core.specs.Seen.{LooksOnly, HoldsOnly, KnowsMore, IsFirstChanged};
     ghost use Rattle.tx_core.specs.Tx.{ObservedLate};
@@ -31,7 +32,7 @@ impl<'a, M: Meaning> Tx<'a, M> {
     /// What is observed here stands at no place before it is validated. After a stop the attempt is stopped, and no cell
     /// is held that wasn't.
     pub fn late_hold(&mut self, cell: u32) -> Result<u64, Stop>
-        requires open_now { IsOpen self.old.state }
+        requires running { self.old.state ≡ Running }
         requires undrawn { self.old.pass.view.stage ≡ Open }
         requires cell { cell < length self.old.table.opening }
         requires spare { IsHeld self.old.pass cell ⊎ ((0 < self.old.spare.locks) × (0 < self.old.spare.observations)) }
@@ -158,7 +159,7 @@ impl<'a, M: Meaning> Tx<'a, M> {
 
     /// Writes a cell that is held, in the commit. Takes no memory.
     pub fn write_reserved(&mut self, cell: u32, value: u64)
-        requires open_now { IsOpen self.old.state }
+        requires running { self.old.state ≡ Running }
         requires held { IsHeld self.old.pass cell }
         requires spare { IsNone (word_at self.old.writes cell) → 0 < self.old.spare.writes }
         ensures written { self.new ≡ record self.old { writes = put self.old.writes cell value; spare = record self.old.spare { writes = self.old.spare.writes - (if is_some (word_at self.old.writes cell) then 0 else 1) }; committing = true } }
@@ -175,7 +176,7 @@ impl<'a, M: Meaning> Tx<'a, M> {
     ///
     /// Ok gives the word of that load: all that was observed stands at this place. After a stop the attempt is stopped.
     pub fn check_now(&mut self) -> Result<u64, Stop>
-        requires open_now { IsOpen self.old.state }
+        requires running { self.old.state ≡ Running }
         requires undrawn { self.old.pass.view.stage ≡ Open }
         ensures place { IfOk result (λ t. (self.old.version ≤ t) × (t ≡ self.new.pass.view.known) × (more : List Event) × (trail_of self.new.pass ≡ trail_of self.old.pass ++ ClockLoaded t ∷ more)) }
         ensures check { IfOk result (λ t. (i : ℕ) → i < length self.old.observations → Observes self.new.pass.view (cell_at self.old.observations i) (word_of self.old.observations i) t) }

@@ -12,9 +12,11 @@ impl<'a, M: Meaning> Tx<'a, M> {
     ghost use Rattle.cell_table.specs.Writers.{Alone};
     ghost use Rattle.cell_table.specs.Pass.{IsSole};
     ghost use Rattle.cell_table.specs.IsPass.{IsPass};
+    ghost use Rattle.cell_table.specs.Legal.{LegalNow};
+    ghost use Rattle.cell_table.specs.Moments.{Moments};
     ghost use Rattle.attempt_lists.specs.Cells.{Entries, word_at, word_of, cell_at, put, IsAscending};
-    ghost use Rattle.attempt_lists.specs.Parts.{waiting_of};
-    ghost use Rattle.tx_core.specs.Additions.{HasSpare, HasTwoEach};
+    ghost use Rattle.attempt_lists.specs.Parts.{waiting_of, marked_of};
+    ghost use Rattle.tx_core.specs.Additions.{HasSpare, HasTwoFor, HasTwoEach};
     ghost use Rattle.tx_core.specs.Parts.{Shows};
 
     /// Take any list of cells in which all holds that the attempt observed, and lay its writes over it. Then a cell that it
@@ -55,6 +57,13 @@ impl<'a, M: Meaning> Tx<'a, M> {
         self.pass.legal_law();
     }
 
+    /// In each legal history of what its pass found there is at each place one lawful list of cells.
+    pub fn moments_law(&self)
+        ensures { (legal : LegalNow M.lawful M.explains self.now.pass.view) → Moments M.lawful M.explains legal.meaning self.now.pass.view legal.history }
+    {
+        self.pass.moments_law();
+    }
+
     /// Before its commit all that the attempt observed stands in one lawful list of cells: it saw the table at one moment.
     pub fn one_moment_law(&self)
         ensures { self.now.committing ≡ false → (m : M) → self.now.pass.view.meaning ≡ Some m → (cells : List ℕ) × M.lawful m cells × (length cells ≡ length self.now.table.opening) × AllHold cells self.now.observations }
@@ -80,9 +89,11 @@ impl<'a, M: Meaning> Tx<'a, M> {
         self.pass.alone_law();
     }
 
-    /// Before its commit, for each addition that waits two places of each kind are kept.
+    /// Before its commit, for each addition that waits two places of each kind are kept. So they are for those that waited when
+    /// a child was opened, which may come back.
     pub fn provided_law(&self)
         ensures twice { self.now.committing ≡ false → HasTwoEach self.now.spare self.now.additions }
+        ensures marked { self.now.committing ≡ false → HasTwoFor self.now.spare (marked_of self.now.additions) }
         ensures each { self.now.committing ≡ false → (part : ℕ) → HasSpare self.now.spare (2 * length (waiting_of self.now.additions part)) }
         ensures few { (self.now.spare.locks < 2 ^ 32) × (self.now.spare.observations < 2 ^ 32) × (self.now.spare.writes < 2 ^ 32) }
     {

@@ -6,6 +6,9 @@
 mod addition_tests;
 mod additions;
 mod check;
+mod child;
+#[cfg(test)]
+mod child_tests;
 mod commit;
 mod gives;
 mod hold;

@@ -96,13 +96,13 @@ fn lock_at<M: Meaning>(
     index: usize,
     version: u64,
 ) -> Result<(), Stop>
-    requires attempt { IsAttempt table.now pass.old version reads.now writes.now held.old true }
+    requires attempt { IsAttempt table.now pass.old version reads.now writes.now.parent held.old true }
     requires undrawn { pass.old.view.stage ≡ Open }
     requires sorted { writes.now.sorted ≡ true }
     requires index { index < length writes.now.parent }
     requires locks { held.old.reserved ≤ pass.old.places }
     requires room { 0 < held.old.reserved }
-    ensures attempt { IsAttempt table.now pass.new version reads.now writes.now held.new true }
+    ensures attempt { IsAttempt table.now pass.new version reads.now writes.now.parent held.new true }
     ensures held { OnOk result (IsHeld pass.new (cell_at writes.now.parent index)) }
     ensures pass { HoldsOnly pass.old pass.new }
     ensures others { SameOthers pass.old pass.new (cell_at writes.now.parent index) }
@@ -138,12 +138,12 @@ pub(crate) fn lock_all<M: Meaning>(
     held: &mut CellList,
     version: u64,
 ) -> Result<(), Stop>
-    requires attempt { IsAttempt table.now pass.old version reads.now writes.now held.old true }
+    requires attempt { IsAttempt table.now pass.old version reads.now writes.now.parent held.old true }
     requires sorted { writes.now.sorted ≡ true }
     requires undrawn { pass.old.view.stage ≡ Open }
     requires locks { held.old.reserved ≤ pass.old.places }
     requires room { length writes.now.parent ≤ held.old.reserved }
-    ensures attempt { IsAttempt table.now pass.new version reads.now writes.now held.new true }
+    ensures attempt { IsAttempt table.now pass.new version reads.now writes.now.parent held.new true }
     ensures all_held { OnOk result ((c : ℕ) → IsSome (word_at writes.now.parent c) → IsHeld pass.new c) }
     ensures pass { HoldsOnly pass.old pass.new }
     ensures others { (c : ℕ) → word_at writes.now.parent c ≡ None → has c (cells_of pass.new.view.held) ≡ has c (cells_of pass.old.view.held) }

@@ -1,7 +1,7 @@
 ghost use Rattle.std.specs.Prelude.{◌≡◌, ℕ, ◌+◌, ◌<◌, ◌≤◌, false, length, [], OnOk, IfOk, IfErr};
 ghost use Rattle.cell_table.specs.Steps.{IsIdle};
 ghost use Rattle.cell_table.specs.Pass.{IsPassOf, IsSole};
-ghost use Rattle.tx_core.specs.Calls.{MayCall, NothingWaits};
+ghost use Rattle.tx_core.specs.Calls.{MayCommit, NothingWaits};
 
 use crate::{Stop, Tx, TxState, Untold};
 use cell_table::{CellTable, Contents, Pass};
@@ -9,8 +9,10 @@ use std::alloc::Global;
 use std::test::Fail;
 
 // Commits an attempt that writes, unless others stop it.
-fn commit(mut tx: Tx<'_, Untold>) -> Result<(u64, Pass<Untold>), (Stop, Pass<Untold>)>
-    requires callable { MayCall tx }
+pub(crate) fn commit(
+    mut tx: Tx<'_, Untold>,
+) -> Result<(u64, Pass<Untold>), (Stop, Pass<Untold>)>
+    requires callable { MayCommit tx }
     requires resolved { NothingWaits tx }
     requires some_write { 0 < length tx.writes }
     requires left { 0 < tx.pass.view.draws }
@@ -34,7 +36,7 @@ fn write_and_commit(
     cell: u32,
     value: u64,
 ) -> Result<(u64, Pass<Untold>), (Stop, Pass<Untold>)>
-    requires callable { MayCall tx }
+    requires callable { MayCommit tx }
     requires resolved { NothingWaits tx }
     requires cell { cell < length tx.table.opening }
     requires left { 0 < tx.pass.view.draws }
@@ -74,10 +76,10 @@ fn commit_one_read(
 
 // The value of a cell, as the first thing that an attempt reads.
 fn read_first(tx: &mut Tx<'_, Untold>, cell: u32) -> Result<u64, Stop>
-    requires callable { MayCall tx.old }
+    requires callable { MayCommit tx.old }
     requires fresh { (tx.old.observations ≡ []) × (tx.old.writes ≡ []) × NothingWaits tx.old }
     requires cell { cell < length tx.old.table.opening }
-    ensures callable { OnOk result (MayCall tx.new) }
+    ensures callable { OnOk result (MayCommit tx.new) }
     ensures resolved { NothingWaits tx.new }
     ensures same { (tx.new.table ≡ tx.old.table) × (tx.new.writes ≡ []) × (tx.new.pass.view.draws ≡ tx.old.pass.view.draws) }
 {
@@ -191,7 +193,7 @@ fn written_cells_are_locked_in_ascending_order(rt: HostRuntime) -> Result<(), Fa
 }
 
 // The values and versions of the first three cells.
-fn three_cells(contents: &Contents) -> ((u64, u64), (u64, u64), (u64, u64))
+pub(crate) fn three_cells(contents: &Contents) -> ((u64, u64), (u64, u64), (u64, u64))
     requires { 3 ≤ length contents.now.values }
 {
     (
@@ -224,7 +226,7 @@ fn a_commit_leaves_what_was_written_and_no_more(rt: HostRuntime) -> Result<(), F
 // A commit that locks one cell late, as far as its draw. It answers the cell's value, the place at which all that was
 // observed stands, and the version that was drawn.
 fn lock_late(tx: &mut Tx<'_, Untold>, cell: u32) -> Result<(u64, u64, u64), Stop>
-    requires callable { MayCall tx.old }
+    requires callable { MayCommit tx.old }
     requires cell { cell < length tx.old.table.opening }
     requires spare { (0 < tx.old.spare.locks) × (0 < tx.old.spare.observations) }
     requires left { 0 < tx.old.pass.view.draws }

@@ -2,7 +2,11 @@
 ghost use Rattle.std.specs.Prelude.{◌≡◌, ℕ, ◌+◌, ◌-◌, ◌^◌, ◌<◌, ◌≤◌, ◌≢◌, ◌↔◌, List, [], ◌∷◌, ◌++◌, true, false, length, slice_index, slice_set, Some, None, IsTrue, IsOk, IfOk, IfErr, OnOk, OnErr};
 ghost use Rattle.std.specs.Option.{option_or};
 
+ghost use Rattle.attempt_lists.specs.Cells.{put};
+ghost use Rattle.attempt_lists.specs.Levels.{merged};
+
 use crate::check::check;
+use crate::child::Mark;
 use crate::gives::{give_back_all, reserve_lock};
 use crate::spare::Spare;
 use crate::steps::read_cell;
@@ -27,18 +31,21 @@ pub struct Tx<'a, M: Meaning> {
     pub(crate) spare: Spare,
     pub(crate) state: TxState,
     pub(crate) committing: bool,
+    pub(crate) mark: Option<Mark>,
 }
 
 impl<'a, M: Meaning> Model for Tx<'a, M> {
-    ghost use Rattle.std.specs.Prelude.{◌≡◌};
+    ghost use Rattle.std.specs.Prelude.{◌≡◌, length};
+    ghost use Rattle.attempt_lists.specs.Levels.{merged};
     ghost use Rattle.tx_core.specs.Tx.{Attempt, IsAttempt};
     ghost use Rattle.tx_core.specs.Additions.{IsProvided};
+    ghost use Rattle.tx_core.specs.Children.{IsNested, marked};
 
     ghost Value = { Attempt M M.Done };
 
-    ghost view = { λ a. record { table = a.table.now; pass = a.pass; state = a.state; version = a.version; observations = a.reads.observations; versions = a.reads.versions; writes = a.writes.parent; notes = a.notes.items; additions = a.additions; spare = a.spare; committing = a.committing } };
+    ghost view = { λ a. record { table = a.table.now; pass = a.pass; state = a.state; version = a.version; observations = a.reads.observations; versions = a.reads.versions; writes = merged a.writes; notes = a.notes.items; additions = a.additions; spare = a.spare; committing = a.committing; mark = marked a.mark a.writes.parent a.held.entries } };
 
-    ghost invariant = { λ a. IsAttempt a.table.now a.pass a.version a.reads a.writes a.held a.committing × IsProvided a.pass a.reads a.writes a.held a.additions a.spare a.committing };
+    ghost invariant = { λ a. IsAttempt a.table.now a.pass a.version a.reads (merged a.writes) a.held a.committing × IsProvided a.pass a.reads a.writes a.held a.additions a.spare a.committing × IsNested (length a.table.now.opening) a.state a.mark a.committing a.reads.observations a.writes a.held.entries a.notes.items };
 }
 
 impl<'a, M: Meaning> Tx<'a, M> {
@@ -70,7 +77,7 @@ impl<'a, M: Meaning> Tx<'a, M> {
         requires idle { IsIdle pass.view }
         requires draw { 0 < pass.view.draws }
         ensures table { IfOk result (λ tx. tx.table ≡ table.now) }
-        ensures fresh { IfOk result (λ tx. (tx.state ≡ Running) × (tx.observations ≡ []) × (tx.writes ≡ []) × (tx.notes ≡ []) × NothingWaits tx × (tx.committing ≡ false)) }
+        ensures fresh { IfOk result (λ tx. (tx.state ≡ Running) × (tx.observations ≡ []) × (tx.writes ≡ []) × (tx.notes ≡ []) × NothingWaits tx × (tx.committing ≡ false) × (tx.mark ≡ None)) }
         ensures pass { IfOk result (λ tx. tx.pass ≡ record pass { view = clocked pass.view tx.version; reserved = tx.pass.reserved }) }
         ensures version { IfOk result (λ tx. (trail_of tx.pass ≡ trail_of pass ++ ClockLoaded tx.version ∷ []) × (pass.seen ≤ tx.version)) }
         ensures begun { IfOk result (λ tx. begun tx ≡ length (trail_of pass)) }
@@ -97,6 +104,7 @@ impl<'a, M: Meaning> Tx<'a, M> {
             },
             state: TxState::Running,
             committing: false,
+            mark: None,
         })
     }
 
@@ -118,7 +126,12 @@ impl<'a, M: Meaning> Tx<'a, M> {
     pub fn is_writing(&self) -> bool
         ensures { IsTrue result ↔ (0 < length self.now.writes) }
     {
-        !self.writes.is_empty()
+        self.writes.ascending_law();
+        self.writes.empty_law();
+        if self.writes.is_empty() {
+            return false;
+        }
+        true
     }
 
     /// Whether an addition waits. It looks at each part to which something was added once.
@@ -235,7 +248,8 @@ impl<'a, M: Meaning> Tx<'a, M> {
         ) else {
             return Err(AllocError);
         };
-        let Ok(()) = self.writes.put(cell, value) else {
+        let in_child = self.mark.is_some();
+        let Ok(()) = put_above(&mut self.writes, in_child, cell, value) else {
             return Err(AllocError);
         };
         Ok(())
@@ -261,7 +275,7 @@ impl<'a, M: Meaning> Tx<'a, M> {
     /// Ok gives the version that was drawn: all that was observed stands just before it. After a stop the attempt is
     /// stopped. One draw is used up in both cases.
     pub fn draw_and_check(&mut self) -> Result<u64, Stop>
-        requires open_now { IsOpen self.old.state }
+        requires running { self.old.state ≡ Running }
         requires undrawn { self.old.pass.view.stage ≡ Open }
         requires holds { self.old.pass.view.held ≢ [] }
         requires left { 0 < self.old.pass.view.draws }
@@ -330,6 +344,7 @@ impl<'a, M: Meaning> Tx<'a, M> {
             spare: _,
             state: _,
             committing: _,
+            mark: _,
         } = self;
         give_back_all(table, &mut pass, held);
         pass.saw(version);
@@ -363,9 +378,35 @@ impl<'a, M: Meaning> Tx<'a, M> {
             spare: _,
             state: _,
             committing: _,
+            mark: _,
         } = self;
         give_back_all(table, &mut pass, held);
         pass.add_reads(version, reads.into_observations(), notes);
         pass
     }
+}
+
+// Writes a cell at the level of the open child, or else at that of the attempt.
+fn put_above(
+    writes: &mut WriteSet,
+    in_child: bool,
+    cell: u32,
+    value: u64,
+) -> Result<(), AllocError>
+    requires level { in_child ≡ false → writes.old.child ≡ [] }
+    ensures merged { OnOk result (merged writes.new ≡ put (merged writes.old) cell value) }
+    ensures parent { in_child ≡ true → writes.new.parent ≡ writes.old.parent }
+    ensures child { in_child ≡ false → writes.new.child ≡ [] }
+    ensures err { OnErr result (writes.new ≡ writes.old) }
+    ensures len { length writes.new.parent + length writes.new.child ≤ length writes.old.parent + length writes.old.child + 1 }
+    ensures reserved { writes.new.reserved ≡ writes.old.reserved }
+{
+    // Each level is in ascending order.
+    writes.ascending_law();
+    if in_child {
+        writes.put_in_child(cell, value)?;
+        return Ok(());
+    }
+    writes.put(cell, value)?;
+    Ok(())
 }

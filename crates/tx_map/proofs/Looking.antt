@@ -46,6 +46,7 @@ module _ {M D : Type 0} (old : Attempt M D) where
     additions = ap (λ (a : Attempt M D). a.additions) is;
     spare = ap (λ (a : Attempt M D). a.spare) is;
     committing = ap (λ (a : Attempt M D). a.committing) is;
+    mark = ap (λ (a : Attempt M D). a.mark) is;
   }
 
   pub stays_looked : (new : Attempt M D) (cell : ℕ) → MayObserve old new cell → Stays old new × (new.writes ≡ old.writes)
@@ -66,6 +67,7 @@ stays_trans a b d s t = record {
   additions = t.additions ∙ s.additions;
   spare = t.spare ∙ s.spare;
   committing = t.committing ∙ s.committing;
+  mark = t.mark ∙ s.mark;
 }
 
 -- the map has at the position what its cell says

@@ -1,7 +1,7 @@
 ghost use Rattle.std.specs.Prelude.{◌≡◌, ◌-◌, ◌^◌, ◌<◌, []};
 ghost use Rattle.cell_table.specs.Steps.{IsIdle};
 ghost use Rattle.cell_table.specs.Pass.{IsPassOf};
-ghost use Rattle.tx_core.specs.Calls.{MayCall, NothingWaits};
+ghost use Rattle.tx_core.specs.Calls.{MayCommit, NothingWaits};
 ghost use Rattle.tx_map.specs.Calls.{MayAsk};
 
 use crate::{MapPart, MapStop};
@@ -110,7 +110,7 @@ fn begin<'a>(
     requires of { IsPassOf table.now pass }
     requires idle { IsIdle pass.view }
     ensures table { result.table ≡ table.now }
-    ensures callable { MayCall result }
+    ensures callable { MayCommit result }
     ensures fresh { result.writes ≡ [] }
     ensures waits { NothingWaits result × (0 < result.pass.view.draws) }
 {
@@ -123,7 +123,7 @@ fn begin<'a>(
 
 // Commits an attempt that writes, and expects this place.
 fn commit(rt: &impl Abort, mut tx: Tx<'_, Untold>, place: u64) -> Pass<Untold>
-    requires callable { MayCall tx }
+    requires callable { MayCommit tx }
     requires waits { NothingWaits tx × (0 < tx.pass.view.draws) }
     ensures of { IsPassOf tx.entry.table result }
     ensures idle { IsIdle result.view }
@@ -142,7 +142,7 @@ fn commit(rt: &impl Abort, mut tx: Tx<'_, Untold>, place: u64) -> Pass<Untold>
 
 // Expects that the commit of an attempt is refused so, after its locks were taken.
 fn expect_refusal(rt: &impl Abort, mut tx: Tx<'_, Untold>, stop: Stop) -> Pass<Untold>
-    requires callable { MayCall tx }
+    requires callable { MayCommit tx }
     requires draw { 0 < tx.pass.view.draws }
     ensures of { IsPassOf tx.entry.table result }
     ensures idle { IsIdle result.view }
@@ -159,7 +159,7 @@ fn expect_refusal(rt: &impl Abort, mut tx: Tx<'_, Untold>, stop: Stop) -> Pass<U
 
 // Commits an attempt that writes nothing, and expects this place.
 fn commit_reads(rt: &impl Abort, tx: Tx<'_, Untold>, place: u64) -> Pass<Untold>
-    requires callable { MayCall tx }
+    requires callable { MayCommit tx }
     requires waits { NothingWaits tx }
     requires no_write { tx.writes ≡ [] }
     ensures of { IsPassOf tx.entry.table result }

@@ -186,10 +186,10 @@ module _ {M D : Type 0} where
   stays_by a b x is stays = subst (Stays a) (sym is) stays
 
   pub stays_fills : (part : PoolPart) (from : ℕ) (wanted : Wanted) (a b : Attempt M D) (old new : ℕ) → FillsSlot part from wanted a b old new → Stays a b
-  stays_fills part from wanted a b old new f = stays_by a b _ f.is (record { table = refl; version = refl; notes = refl; additions = refl; spare = refl; committing = refl })
+  stays_fills part from wanted a b old new f = stays_by a b _ f.is (record { table = refl; version = refl; notes = refl; additions = refl; spare = refl; committing = refl; mark = refl })
 
   pub stays_sees : (part : PoolPart) (from : ℕ) (a b : Attempt M D) → SeesSlots part from a b → Stays a b
-  stays_sees part from a b s = stays_by a b _ s.is (record { table = refl; version = refl; notes = refl; additions = refl; spare = refl; committing = refl })
+  stays_sees part from a b s = stays_by a b _ s.is (record { table = refl; version = refl; notes = refl; additions = refl; spare = refl; committing = refl; mark = refl })
 
 module _ {M D : Type 0} (part : PoolPart) (n : ℕ) (a m b : Attempt M D) where
   -- a slot is held, and its word written, or there was no memory for that

@@ -10,4 +10,5 @@ mod tests;
 mod walk;
 mod wanted;
 
+pub use laws::serial_law;
 pub use part::PoolPart;

@@ -1,7 +1,7 @@
 ghost use Rattle.std.specs.Prelude.{◌≡◌, ◌-◌, ◌^◌, ◌<◌, length};
 ghost use Rattle.cell_table.specs.Steps.{IsIdle};
 ghost use Rattle.cell_table.specs.Pass.{IsPassOf};
-ghost use Rattle.tx_core.specs.Calls.{MayCall, NothingWaits, Stays};
+ghost use Rattle.tx_core.specs.Calls.{MayCommit, NothingWaits, Stays};
 ghost use Rattle.tx_pool.specs.Pool.{IsPoolOf};
 
 use crate::PoolPart;
@@ -18,9 +18,9 @@ fn expect_take(
     from: u32,
     item: Option<u64>,
 )
-    requires callable { MayCall tx.old }
+    requires callable { MayCommit tx.old }
     requires part { IsPoolOf part.now tx.old.table.opening }
-    ensures callable { MayCall tx.new }
+    ensures callable { MayCommit tx.new }
     ensures stays { Stays tx.old tx.new }
     ensures draws { tx.new.pass.view.draws ≡ tx.old.pass.view.draws }
 {
@@ -30,10 +30,10 @@ fn expect_take(
 
 // Expects that the item is put in, or that there is no room.
 fn expect_put(rt: &impl Abort, part: &PoolPart, tx: &mut Tx<'_, Untold>, value: u64, room: bool)
-    requires callable { MayCall tx.old }
+    requires callable { MayCommit tx.old }
     requires part { IsPoolOf part.now tx.old.table.opening }
     requires value { value < 2 ^ 64 - 1 }
-    ensures callable { MayCall tx.new }
+    ensures callable { MayCommit tx.new }
     ensures stays { Stays tx.old tx.new }
 {
     let done = part
@@ -44,7 +44,7 @@ fn expect_put(rt: &impl Abort, part: &PoolPart, tx: &mut Tx<'_, Untold>, value: 
 
 // Expects that this caller holds the pool's first slot, and ends the attempt.
 fn expect_held(rt: &impl Abort, part: &PoolPart, mut tx: Tx<'_, Untold>, owner: u32) -> Pass<Untold>
-    requires callable { MayCall tx }
+    requires callable { MayCommit tx }
     requires part { IsPoolOf part.now tx.table.opening }
     requires draws { 0 < tx.pass.view.draws }
     ensures of { IsPassOf tx.entry.table result }
@@ -60,7 +60,7 @@ fn expect_held(rt: &impl Abort, part: &PoolPart, mut tx: Tx<'_, Untold>, owner: 
 
 // Commits an attempt that writes, and expects this place.
 fn expect_commit(rt: &impl Abort, mut tx: Tx<'_, Untold>, place: u64) -> Pass<Untold>
-    requires callable { MayCall tx }
+    requires callable { MayCommit tx }
     requires nothing { NothingWaits tx }
     requires draws { 0 < tx.pass.view.draws }
     requires writes { 0 < length tx.writes }

@@ -13,7 +13,7 @@ pub loop-index-init : goal.loop-index-init
 loop-index-init g c = (locking_begins _ _ _ _ c.args.pass.now _ c.args.held.now c.requires.attempt c.requires.undrawn c.requires.locks (omega arith), counted_none c.args.pass.now c.args.pass.now refl)
 
 -- one more cell was tried
-tried : (g : _) (c : After-lock_at g) → IsLocking c.args.table.now c.args.version c.args.reads.now c.args.writes.now c.args.pass.now c.args.held.now.reserved (c.loop-index.index + 1) c.loop-index.index c.lock_at.new.pass c.lock_at.new.held
+tried : (g : _) (c : After-lock_at g) → IsLocking c.args.table.now c.args.version c.args.reads.now c.args.writes.now.parent c.args.pass.now c.args.held.now.reserved (c.loop-index.index + 1) c.loop-index.index c.lock_at.new.pass c.lock_at.new.held
 tried g c =
     let e = c.lock_at.ensures in
     locking_tries _ _ _ _ c.args.pass.now _ c.loop-index.index c.loop-index.index c.loop-index.pass c.lock_at.new.pass c.loop-index.held c.lock_at.new.held c.loop-index.invariant.0 (omega (arith, ap length c.parent-index-end.ensures.entries)) e.attempt e.pass e.others (held_still _ _ e.kept) e.kept e.locks e.room e.steps

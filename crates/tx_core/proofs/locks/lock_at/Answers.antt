@@ -11,7 +11,7 @@ lock_late-requires-clause-cell g c = rw c.parent.ensures.entries (cell_there (λ
 -- the lock takes one of the reserved places
 pub returns-in-Ok-clause-attempt : goal.returns-in-Ok-clause-attempt
 returns-in-Ok-clause-attempt g c =
-    attempt_locks_reserved _ _ c.args.pass.now c.lock_late.new.pass c.args.reads.now c.args.writes.now c.args.held.now c.push_reserved.new.self _ c.in-Ok.found c.args.index
+    attempt_locks_reserved _ _ c.args.pass.now c.lock_late.new.pass c.args.reads.now c.args.writes.now.parent c.args.held.now c.push_reserved.new.self _ c.in-Ok.found c.args.index
     c.requires.attempt c.in-Ok.ensures.takes.0 c.in-Ok.ensures.of c.requires.undrawn c.push_reserved.ensures.entries c.requires.index
     (ap (λ (es : Entries). cell_at es c.args.index) c.parent.ensures.entries) c.in-Ok.ensures.seen
 

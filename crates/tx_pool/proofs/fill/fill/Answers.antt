@@ -121,4 +121,4 @@ returns-in-Err-clause-stays g c =
     (pass_of_holds _ 0 c.walk.new.tx c.write.new.self _ (holds_looks _ 0 c.walk.new.tx c.write.new.self _ c.in-Err.ensures.looks)))
 
 pub returns-in-Memory-clause-stays : goal.returns-in-Memory-clause-stays
-returns-in-Memory-clause-stays g c = stays_by c.args.tx.now c.walk.new.tx _ c.in-Memory.ensures.tells.0 (record { table = refl; version = refl; notes = refl; additions = refl; spare = refl; committing = refl })
+returns-in-Memory-clause-stays g c = stays_by c.args.tx.now c.walk.new.tx _ c.in-Memory.ensures.tells.0 (record { table = refl; version = refl; notes = refl; additions = refl; spare = refl; committing = refl; mark = refl })

@@ -1,4 +1,4 @@
-use Rattle.std.proofs.Common.{◌≡◌, length, slice_index, inl, inr, ap, sym, ◌∙◌, arith}
+use Rattle.std.proofs.Common.{◌≡◌, length, slice_index, inl, inr, refl, ap, sym, ◌∙◌, arith}
 use Rattle.std.proofs.lemmas.Bool.{cases_Bool}
 use Rattle.cell_table.specs.Cells.{has}
 use Rattle.cell_table.specs.Rule.{cells_of}
@@ -13,6 +13,9 @@ use Rattle.tx_core.proofs.Found.{grew_step}
 use Rattle.tx_core.proofs.Calling.{steps_by}
 use Rattle.tx_core.proofs.AttemptFacts.{attempt_knows, attempt_commits}
 use Rattle.tx_core.proofs.Providing.{provided_places, provided_commits}
+use Rattle.tx_core.specs.declared.stop.TxState.TheVariants.{Running}
+use Rattle.tx_core.specs.Children.{is_child}
+use Rattle.tx_core.proofs.Nesting.{nested_free, unmarked, child_stopped}
 use Rattle.tx_core.proofs.tx.Tx.check_now.Goals as goal
 
 pub check-requires-clause-observed : goal.check-requires-clause-observed
@@ -22,16 +25,22 @@ check-requires-clause-observed g c =
 
 pub invariant_of-self : goal.invariant_of-self
 invariant_of-self g c =
+    let running : c.self.inside.state ≡ Running = ap (λ (a : Attempt _ _). a.state) c.self.view_is ∙ c.requires.running in
+    let none = unmarked _ _ c.self.inside.mark _ _ _ _ _ (ap is_child running) c.self.invariant.2 in
     let knows = knows_then_looks _ _ _ (clocked_knows c.self.inside.pass c.clock-place.new.pass c.clock-place.result c.clock-place.ensures.view c.clock-place.ensures.later.1) c.in-Ok.ensures.looks in (
       attempt_knows _ _ c.self.inside.pass c.check.new.pass _ _ _ _ knows c.in-Ok.ensures.of (attempt_commits _ _ _ _ _ _ _ c.self.invariant.0),
       provided_places c.self.inside.pass c.check.new.pass _ _ _ _ _ _ (ap (λ (s : PassState _ _). s.places) knows.is) (provided_commits _ _ _ _ _ _ _ c.self.invariant.1),
+      nested_free _ _ _ _ _ _ _ _ _ _ _ _ _ _ refl none (λ e. e) c.self.invariant.2,
     )
 
 pub invariant_of-self-in-Err : goal.invariant_of-self-in-Err
 invariant_of-self-in-Err g c =
+    let running : c.self.inside.state ≡ Running = ap (λ (a : Attempt _ _). a.state) c.self.view_is ∙ c.requires.running in
+    let none = unmarked _ _ c.self.inside.mark _ _ _ _ _ (ap is_child running) c.self.invariant.2 in
     let knows = knows_then_looks _ _ _ (clocked_knows c.self.inside.pass c.clock-place.new.pass c.clock-place.result c.clock-place.ensures.view c.clock-place.ensures.later.1) c.in-Err.ensures.looks in (
       attempt_knows _ _ c.self.inside.pass c.check.new.pass _ _ _ _ knows c.in-Err.ensures.of (attempt_commits _ _ _ _ _ _ _ c.self.invariant.0),
       provided_places c.self.inside.pass c.check.new.pass _ _ _ _ _ _ (ap (λ (s : PassState _ _). s.places) knows.is) (provided_commits _ _ _ _ _ _ _ c.self.invariant.1),
+      nested_free _ _ _ _ _ _ _ _ _ _ _ _ _ _ (ap is_child c.stopped-self-inside.ensures ∙ child_stopped _) none (λ e. e) c.self.invariant.2,
     )
 
 pub returns-in-Ok-clause-knows : goal.returns-in-Ok-clause-knows

@@ -1,4 +1,4 @@
-use Rattle.std.proofs.Common.{◌≡◌, ◌≢◌, ℕ, ◌-◌, ◌<◌, [], length, slice_index, inl, inr, ap, sym, ◌∙◌, arith}
+use Rattle.std.proofs.Common.{◌≡◌, ◌≢◌, ℕ, ◌-◌, ◌<◌, [], length, slice_index, inl, inr, refl, ap, sym, ◌∙◌, arith}
 use Rattle.std.proofs.lemmas.Bool.{cases_Bool}
 use Rattle.cell_table.specs.Cells.{has}
 use Rattle.cell_table.specs.Rule.{cells_of}
@@ -11,6 +11,9 @@ use Rattle.tx_core.specs.Facts.{grows_trans, observes_grows}
 use Rattle.tx_core.proofs.Looks.{drawn_grows, stands_unheld}
 use Rattle.tx_core.proofs.Providing.{provided_places, provided_commits}
 use Rattle.tx_core.proofs.AttemptFacts.{attempt_looks, attempt_commits, attempt_draws}
+use Rattle.tx_core.specs.declared.stop.TxState.TheVariants.{Running}
+use Rattle.tx_core.specs.Children.{is_child}
+use Rattle.tx_core.proofs.Nesting.{nested_free, unmarked, child_stopped}
 use Rattle.tx_core.proofs.tx.Tx.draw_and_check.Goals.{In-Ok}
 use Rattle.tx_core.proofs.tx.Tx.draw_and_check.Goals as goal
 
@@ -23,18 +26,24 @@ check-requires-clause-observed g c =
 
 pub invariant_of-self : goal.invariant_of-self
 invariant_of-self g c =
+    let running : c.self.inside.state ≡ Running = ap (λ (a : Attempt _ _). a.state) c.self.view_is ∙ c.requires.running in
+    let none = unmarked _ _ c.self.inside.mark _ _ _ _ _ (ap is_child running) c.self.invariant.2 in
     let some : c.self.inside.pass.view.held ≢ [] = λ none. c.requires.holds (ap (λ (a : Attempt _ _). a.pass.view.held) (sym c.self.view_is) ∙ none) in
     let drew = attempt_draws _ _ c.self.inside.pass c.draw-drawn.new.pass _ _ _ c.draw-drawn.result (attempt_commits _ _ _ _ _ _ _ c.self.invariant.0) c.draw-drawn.ensures.view c.draw-drawn.ensures.of c.draw-drawn.ensures.later.1 some in (
       attempt_looks _ _ c.draw-drawn.new.pass c.check.new.pass _ _ _ _ c.in-Ok.ensures.looks c.in-Ok.ensures.of drew,
       provided_places c.self.inside.pass c.check.new.pass _ _ _ _ _ _ (ap (λ (s : PassState _ _). s.places) c.in-Ok.ensures.looks.0 ∙ ap (λ (s : PassState _ _). s.places) c.draw-drawn.ensures.view) (provided_commits _ _ _ _ _ _ _ c.self.invariant.1),
+      nested_free _ _ _ _ _ _ _ _ _ _ _ _ _ _ refl none (λ e. e) c.self.invariant.2,
     )
 
 pub invariant_of-self-in-Err : goal.invariant_of-self-in-Err
 invariant_of-self-in-Err g c =
+    let running : c.self.inside.state ≡ Running = ap (λ (a : Attempt _ _). a.state) c.self.view_is ∙ c.requires.running in
+    let none = unmarked _ _ c.self.inside.mark _ _ _ _ _ (ap is_child running) c.self.invariant.2 in
     let some : c.self.inside.pass.view.held ≢ [] = λ none. c.requires.holds (ap (λ (a : Attempt _ _). a.pass.view.held) (sym c.self.view_is) ∙ none) in
     let drew = attempt_draws _ _ c.self.inside.pass c.draw-drawn.new.pass _ _ _ c.draw-drawn.result (attempt_commits _ _ _ _ _ _ _ c.self.invariant.0) c.draw-drawn.ensures.view c.draw-drawn.ensures.of c.draw-drawn.ensures.later.1 some in (
       attempt_looks _ _ c.draw-drawn.new.pass c.check.new.pass _ _ _ _ c.in-Err.ensures.looks c.in-Err.ensures.of drew,
       provided_places c.self.inside.pass c.check.new.pass _ _ _ _ _ _ (ap (λ (s : PassState _ _). s.places) c.in-Err.ensures.looks.0 ∙ ap (λ (s : PassState _ _). s.places) c.draw-drawn.ensures.view) (provided_commits _ _ _ _ _ _ _ c.self.invariant.1),
+      nested_free _ _ _ _ _ _ _ _ _ _ _ _ _ _ (ap is_child c.stopped-self-inside.ensures ∙ child_stopped _) none (λ e. e) c.self.invariant.2,
     )
 
 -- a held cell stands just before the draw by the draw itself, and the others by the validation

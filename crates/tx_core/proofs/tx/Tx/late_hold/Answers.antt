@@ -1,4 +1,5 @@
-use Rattle.std.proofs.Common.{ap, ◌∙◌}
+use Rattle.std.proofs.Common.{ap, sym, ◌∙◌}
+use Rattle.attempt_lists.specs.Cells.{word_at}
 use Rattle.tx_core.specs.Tx.{Attempt}
 use Rattle.tx_core.specs.Causes.{begun_of}
 use Rattle.tx_core.proofs.Calling.{steps_late}
@@ -14,3 +15,6 @@ returns-in-Ok-clause-leaves g c =
       known = e.pass.known ∙ ap (λ (a : Attempt _ _). a.pass.view.known) view;
       began = e.pass.begun ∙ ap (λ (a : Attempt _ _). begun_of a.pass.view.trail) view;
     }
+
+pub returns-in-Err-clause-twice : goal.returns-in-Err-clause-twice
+returns-in-Err-clause-twice g c = λ none. rw (ap (λ (a : Attempt _ _). a.pass) (sym c.self.view_is), ap (λ (a : Attempt _ _). a.pass) c.halt.ensures) (c.in-Err.ensures.twice (ap (λ (a : Attempt _ _). word_at a.observations c.args.cell) c.self.view_is ∙ none))

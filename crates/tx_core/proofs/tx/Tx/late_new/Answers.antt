@@ -10,6 +10,7 @@ use Rattle.tx_core.proofs.Looks.{valued_is, looks_by}
 use Rattle.tx_core.proofs.AttemptFacts.{attempt_looks}
 use Rattle.tx_core.proofs.Providing.{provided_places, provided_locks, provided_observes}
 use Rattle.tx_core.proofs.Locking.{attempt_locks_new, takes_then_looks, holds_only_takes, held_takes, among_inserted, word_at-new}
+use Rattle.tx_core.proofs.Nesting.{nested_free, marked_none}
 use Rattle.tx_core.proofs.tx.Tx.late_new.Goals.{After-push_reserved-in-Ok}
 use Rattle.tx_core.proofs.tx.Tx.late_new.Goals as goal
 
@@ -63,6 +64,7 @@ invariant_of-self g c =
           c.self.invariant.0 refl refl t c.look_value-value.ensures.of (stage_open g c) c.push_reserved.ensures.entries there unobserved c.push_reserved-in-Ok.ensures.observations c.push_reserved-in-Ok.ensures.versions
           (seen_new g c) (λ early. absurd (true_false (sym committing ∙ early))),
       rw committing (provided_observes _ _ _ _ _ _ _ (provided_locks c.self.inside.pass c.look_value-value.new.pass _ _ c.self.inside.held c.push_reserved.new.self _ _ room (omega (arith, ap (λ (s : PassState _ _). s.places) t.is, room.locks, room.spare_locks, locks)) c.push_reserved.ensures.reserved locks) c.push_reserved-in-Ok.ensures.reserved observations),
+      nested_free _ _ _ _ _ _ _ _ _ _ _ _ _ _ refl (c.self.invariant.2.before_commit committing) (λ e. e) c.self.invariant.2,
     )
   where
     true_false : true ≡ false → ⊥
@@ -72,6 +74,7 @@ pub invariant_of-self-in-Err : goal.invariant_of-self-in-Err
 invariant_of-self-in-Err g c = (
   attempt_looks _ _ _ c.lock_newest.new.pass _ _ _ _ c.in-Err.ensures.looks c.in-Err.ensures.of c.self.invariant.0,
   provided_places _ _ _ _ _ _ _ _ (ap (λ (s : PassState _ _). s.places) c.in-Err.ensures.looks.0) c.self.invariant.1,
+  c.self.invariant.2,
 )
 
 pub returns-in-Ok-clause-takes : goal.returns-in-Ok-clause-takes
@@ -85,7 +88,7 @@ returns-in-Ok-clause-value g c =
 pub returns-in-Ok-clause-observes : goal.returns-in-Ok-clause-observes
 returns-in-Ok-clause-observes g c = record {
   version = c.in-Ok.version;
-  is = rw (c.push_reserved-in-Ok.ensures.observations, c.push_reserved-in-Ok.ensures.versions)
+  is = rw (marked_none c.self.inside.mark c.self.inside.writes.parent c.self.inside.writes.parent c.push_reserved.new.self.entries c.self.inside.held.entries (c.self.invariant.2.before_commit (ap (λ (a : Attempt _ _). a.committing) c.self.view_is ∙ c.requires.committing)), c.push_reserved-in-Ok.ensures.observations, c.push_reserved-in-Ok.ensures.versions)
       (ap (λ (a : Attempt _ _). record a { pass = c.look_value-value.new.pass; observations = a.observations ++ (c.args.cell, c.look_value-value.result) ∷ []; versions = a.versions ++ c.in-Ok.version ∷ []; spare = record a.spare { locks = a.spare.locks - 1; observations = a.spare.observations - 1 } }) c.self.view_is
       ∙ ap (λ b. record c.args.self.now { pass = c.look_value-value.new.pass; observations = c.args.self.now.observations ++ (c.args.cell, c.look_value-value.result) ∷ []; versions = c.args.self.now.versions ++ c.in-Ok.version ∷ []; spare = record c.args.self.now.spare { locks = c.args.self.now.spare.locks - 1; observations = c.args.self.now.spare.observations - 1 }; committing = b }) c.requires.committing);
   reads = reads_new g c;

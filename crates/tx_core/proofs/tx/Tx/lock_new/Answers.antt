@@ -1,16 +1,20 @@
-use Rattle.std.proofs.Common.{◌≡◌, false, ◌<◌, ◌++◌, ◌∷◌, [], length, None, ap, sym, ◌∙◌, arith}
+use Rattle.std.proofs.Common.{◌≡◌, List, subst, false, ◌<◌, List, subst, ◌++◌, ◌∷◌, [], length, None, refl, ap, sym, ◌∙◌, arith}
 use Rattle.cell_table.specs.declared.view.View.{View}
 use Rattle.cell_table.specs.declared.view.Stage.TheVariants.{Open}
 use Rattle.cell_table.specs.Sorted.{insert_by}
 use Rattle.cell_table.specs.Steps.{cell_key}
-use Rattle.cell_table.specs.Pass.{PassState}
-use Rattle.attempt_lists.specs.Cells.{word_at}
+use Rattle.cell_table.specs.Pass.{PassState, trail_of}
+use Rattle.attempt_lists.specs.Cells.{Entries, word_at}
+use Rattle.cell_table.specs.declared.view.Event.{Event}
+use Rattle.tx_core.specs.Causes.{GrewBy}
+use Rattle.tx_core.proofs.Found.{grew_step}
 use Rattle.tx_core.specs.Tx.{Attempt}
 use Rattle.tx_core.specs.Seen.{StandsAt}
 use Rattle.tx_core.proofs.Looks.{valued_is, looks_by, seen_stands}
 use Rattle.tx_core.proofs.Providing.{provided_moves}
 use Rattle.tx_core.proofs.AttemptFacts.{attempt_looks, attempt_widens, attempt_reserves}
 use Rattle.tx_core.proofs.Locking.{attempt_locks_new, holds_only_takes, takes_then_looks, among_inserted, word_at-new}
+use Rattle.tx_core.proofs.Nesting.{nested_grows, more_none, more_one, marked_locks}
 use Rattle.tx_core.proofs.tx.Tx.lock_new.Goals as goal
 
 -- the value that was loaded under the lock is that of the version which the lock replaced
@@ -54,12 +58,15 @@ invariant_of-self-in-Ok-lock_cell g c =
           (omega (arith, c.self.invariant.1.room before, c.in-Ok.ensures.ok, c.push_reserved.ensures.reserved))
           (omega (arith, c.self.invariant.1.spare_observations, c.in-Ok-reserve.ensures.ok, c.push_reserved-in-Ok-lock_cell.ensures.reserved)) c.self.invariant.1.spare_writes
           (λ early. omega (arith, c.in-Ok.ensures.ok, c.push_reserved.ensures.reserved)),
+      nested_grows _ _ _ _ _ c.self.inside.reads.observations c.push_reserved-in-Ok-lock_cell.new.self.observations _ _ c.self.inside.held.entries c.push_reserved.new.self.entries _ _ refl
+          (more_one _ _ _ (c.push_reserved-in-Ok-lock_cell.ensures.observations ∙ ap (λ (es : Entries). es ++ (c.args.cell, c.look_value-value.result) ∷ []) c.reserve.ensures.observations))
+          (more_one _ _ _ (c.push_reserved.ensures.entries ∙ ap (λ (es : Entries). es ++ (c.args.cell, c.in-Ok-lock_cell.version) ∷ []) c.in-Ok.ensures.entries)) (more_none _) (λ some. refl) c.self.invariant.2.alone c.self.invariant.2,
     )
 
 pub returns-in-Ok-lock_cell-clause-observes : goal.returns-in-Ok-lock_cell-clause-observes
 returns-in-Ok-lock_cell-clause-observes g c = record {
   version = c.in-Ok-lock_cell.version;
-  is = rw (c.push_reserved-in-Ok-lock_cell.ensures.observations, c.push_reserved-in-Ok-lock_cell.ensures.versions, c.reserve.ensures.observations, c.reserve.ensures.versions)
+  is = rw (c.push_reserved.ensures.entries, c.in-Ok.ensures.entries, marked_locks c.self.inside.mark c.self.inside.writes.parent c.self.inside.held.entries (c.args.cell, c.in-Ok-lock_cell.version) (λ m is. (c.self.invariant.2.marked m is).held), c.push_reserved-in-Ok-lock_cell.ensures.observations, c.push_reserved-in-Ok-lock_cell.ensures.versions, c.reserve.ensures.observations, c.reserve.ensures.versions)
       (ap (λ (a : Attempt _ _). record a { pass = c.look_value-value.new.pass; observations = a.observations ++ (c.args.cell, c.look_value-value.result) ∷ []; versions = a.versions ++ c.in-Ok-lock_cell.version ∷ [] }) c.self.view_is);
   stands = rw (ap (λ (a : Attempt _ _). a.version) (sym c.self.view_is)) (stands_new g c);
 }
@@ -73,6 +80,7 @@ invariant_of-self-in-Err g c = (
       (rw (ap (λ (s : PassState _ _). s.places) c.in-Err.ensures.looks.0) c.in-Ok.ensures.locks)
       (omega (arith, c.self.invariant.1.spare_locks, c.in-Ok.ensures.kept)) (omega (arith, c.self.invariant.1.spare_observations, c.in-Ok-reserve.ensures.ok)) c.self.invariant.1.spare_writes
       (λ early. omega (arith, c.self.invariant.1.room early, c.in-Ok.ensures.kept)),
+  rw (c.in-Ok.ensures.entries, c.reserve.ensures.observations) c.self.invariant.2,
 )
 
 pub returns-in-Ok-lock_cell-clause-value : goal.returns-in-Ok-lock_cell-clause-value
@@ -88,3 +96,8 @@ returns-in-Ok-lock_cell-clause-takes g c =
 
 pub returns-in-Ok-lock_cell-clause-pass : goal.returns-in-Ok-lock_cell-clause-pass
 returns-in-Ok-lock_cell-clause-pass g c = rw (ap (λ (a : Attempt _ _). a.pass) (sym c.self.view_is)) (holds_only_takes c.self.inside.pass c.reserve_lock.new.pass _ _ _ c.in-Ok.ensures.pass (takes_then_looks _ _ _ _ _ c.in-Ok-lock_cell.ensures.takes (looks_by c.lock_cell.new.pass c.look_value-value.new.pass _ c.look_value-value.ensures.view (valued_is _ _ _))))
+
+pub returns-in-Ok-lock_cell-clause-steps : goal.returns-in-Ok-lock_cell-clause-steps
+returns-in-Ok-lock_cell-clause-steps g c =
+    subst (λ (t : List Event). GrewBy 3 t (trail_of c.look_value-value.new.pass)) (ap trail_of c.in-Ok.ensures.pass ∙ ap (λ (a : Attempt _ _). trail_of a.pass) c.self.view_is)
+    (grew_step 2 _ _ _ _ c.in-Ok-lock_cell.ensures.steps c.look_value-value.ensures.step)

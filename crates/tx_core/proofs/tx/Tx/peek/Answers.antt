@@ -23,6 +23,7 @@ pub invariant_of-self : goal.invariant_of-self
 invariant_of-self g c = (
   attempt_looks _ _ _ c.read_cell.new.pass _ _ _ _ c.read_cell.ensures.looks c.read_cell.ensures.of c.self.invariant.0,
   provided_places _ _ _ _ _ _ _ _ (ap (λ (s : PassState _ _). s.places) c.read_cell.ensures.looks.0) c.self.invariant.1,
+  c.self.invariant.2,
 )
 
 pub returns-clause-stands : goal.returns-clause-stands
