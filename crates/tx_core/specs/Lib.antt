@@ -9,3 +9,6 @@ pub mod Calls
 pub mod Words
 pub mod Facts
 pub mod Sequences
+pub mod OneCell
+pub mod SequencePlaces
+pub mod SequenceFacts

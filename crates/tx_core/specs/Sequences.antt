@@ -32,6 +32,37 @@ pub record CellSequence : Type 0 where
 abbrev pub place_of : CellSequence → ℕ → ℕ → ℕ
 place_of s word k = s.cell_of word (s.length_of word + k)
 
+-- the cell in which the next item would stand
+abbrev pub next_of : CellSequence → ℕ → ℕ
+next_of s word = s.cell_of word (s.length_of word)
+
+-- the cell is for one of n additions
+abbrev pub IsAddition : CellSequence → ℕ → ℕ → ℕ → Type 0
+IsAddition s word n c = (k : ℕ) × (k < n) × (c ≡ place_of s word k)
+
+abbrev pub IsEndOrAddition : CellSequence → ℕ → ℕ → ℕ → Type 0
+IsEndOrAddition s word n c = (c ≡ s.end) ⊎ IsAddition s word n c
+
+-- ---- the values before a call and after it
+
+-- the value was added
+abbrev pub Appends : ℕ → List ℕ → List ℕ → Type 0
+Appends value before after = after ≡ before ++ value ∷ []
+
+-- n is the number of values
+abbrev pub HasLength : ℕ → List ℕ → List ℕ → Type 0
+HasLength n before after = (n ≡ length before) × (after ≡ before)
+
+-- they have the length n with the additions, which is at most the capacity
+abbrev pub Settles : ℕ → List ℕ → List ℕ → Type 0
+Settles capacity before after = (after ≡ before) × (length after ≤ capacity)
+
+-- with the additions there are n of them, and nothing was placed
+abbrev pub Exceeds : ℕ → List ℕ → List ℕ → Type 0
+Exceeds n before after = (length before ≡ n) × (after ≡ before)
+
+-- ---- attempts
+
 module _ {M D : Type 0} where
   -- at most n cells more are held, each by at most three steps, and there were no other steps
   pub record LocksUpTo (n : ℕ) (p q : PassState M D) : Type 0 where
@@ -45,7 +76,23 @@ module _ {M D : Type 0} where
   abbrev pub Makes : (List ℕ → Type 0) → (List ℕ → List ℕ) → ℕ → Attempt M D → Attempt M D → (List ℕ → List ℕ → Type 0) → Type 0
   Makes IsFormed values part old new P = Explains IsFormed old new (λ before after. IsFormed after × P (values before ++ waiting part old) (values after ++ waiting part new))
 
+  -- A stop at a cell with P, with its cause in the steps of this call. Where a cell that wasn't observed before is newer, two
+  -- versions of it were found.
+  pub record IsStoppedAt (P : ℕ → Type 0) (old new : Attempt M D) (stop : Stop) : Type 0 where
+    pub state : new.state ≡ stopped_from old.state
+    pub found : IsFoundIn P stop
+    pub cause : CausedIn old new stop
+    pub twice : IsUnseen old stop → FoundTwice (length (trail_of old.pass)) (trail_of new.pass) stop
+
   module _ (s : CellSequence) where
+    -- One value came into a cell, which is written and held, and the attempt goes on
+    pub record IsPlaced (cell value : ℕ) (old new : Attempt M D) : Type 0 where
+      pub state : new.state ≡ old.state
+      pub written : word_at new.writes cell ≡ Some (s.stored value)
+      pub held : IsHeld new.pass cell
+      pub writes_held : HoldsWrites old → HoldsWrites new
+      pub locks : LocksUpTo 1 old.pass new.pass
+
     -- the word of the end that was found under its lock
     abbrev pub FoundEnd : Attempt M D → Attempt M D → ℕ → Type 0
     FoundEnd old new word = option_or (word_at old.writes s.end) (word_at new.observations s.end) ≡ Some word
@@ -63,21 +110,20 @@ module _ {M D : Type 0} where
       pub held : IsHeld new.pass s.end
       pub items : (k : ℕ) → k < length (waiting s.part old) → (word_at new.writes (place_of s word k) ≡ Some (s.stored (slice_index (waiting s.part old) k))) × IsHeld new.pass (place_of s word k)
 
-    -- The attempt goes on, and nothing waits. Of the cells the end and those of the additions alone came to be held
-    pub record IsSettled (old new : Attempt M D) : Type 0 where
+    -- The attempt goes on, and nothing waits. Of the cells the end and those of the additions alone came to be held, at most m
+    pub record IsSettledBy (m : ℕ) (old new : Attempt M D) : Type 0 where
       pub state : new.state ≡ old.state
       pub emptied : waiting s.part new ≡ []
       pub extended : waiting s.part old ≢ [] → IsExtended old new
       pub writes_held : HoldsWrites old → HoldsWrites new
-      pub locks : LocksUpTo (1 + length (waiting s.part old)) old.pass new.pass
+      pub locks : LocksUpTo m old.pass new.pass
 
-    -- A stop at one of these cells or at one that was observed before, with its cause in the steps of this call.
-    -- Where a cell that wasn't observed before is newer, two versions of it were found.
-    pub record IsStopped (old new : Attempt M D) (stop : Stop) : Type 0 where
-      pub state : new.state ≡ stopped_from old.state
-      pub found : IsFoundIn (λ c. IsPlace old new c ⊎ IsSome (word_at old.observations c)) stop
-      pub cause : CausedIn old new stop
-      pub twice : IsUnseen old stop → FoundTwice (length (trail_of old.pass)) (trail_of new.pass) stop
+    abbrev pub IsSettled : Attempt M D → Attempt M D → Type 0
+    IsSettled old new = IsSettledBy (1 + length (waiting s.part old)) old new
+
+    -- a stop at one of these cells or at one that was observed before
+    abbrev pub IsStopped : Attempt M D → Attempt M D → Stop → Type 0
+    IsStopped old new stop = IsStoppedAt (λ c. IsPlace old new c ⊎ IsSome (word_at old.observations c)) old new stop
 
     -- With the n items that are there the additions are more than the capacity, at the place that is known: the clock had it
     -- in this call, and all that was observed stands there. The attempt goes on, and nothing is placed.

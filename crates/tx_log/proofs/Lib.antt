@@ -1,10 +1,6 @@
 pub mod Logs
 pub mod Serial
-pub mod Placing
 pub mod Replies
 pub mod OneRead
-pub mod Spares
 pub mod ReadAnswers
-pub mod OneHold
-pub mod Placings
-pub mod ResolveAnswers
+pub mod Sequence

@@ -5,7 +5,8 @@ use Rattle.serial_terms.specs.Serial.{State, Sequence, put_log, found, Allows}
 use Rattle.serial_terms.specs.Serial as serial
 use Rattle.serial_terms.specs.declared.call.Call.TheVariants.{Append, AppendPlaced, LogRead, LogLen}
 use Rattle.serial_terms.specs.declared.call.Reply.TheVariants.{Nothing, Value}
-use Rattle.tx_log.specs.Log.{Appends, AppendsAt, HasAt, HasLength}
+use Rattle.tx_core.specs.Sequences.{Appends, HasLength}
+use Rattle.tx_log.specs.Log.{AppendsAt, HasAt}
 
 -- a log that stays leaves the state
 same_state : (s : State) (l : ℕ) (then : List ℕ) → then ≡ (s.logs l).items → s ≡ put_log s l then

@@ -40,10 +40,6 @@ MakesOf log old new P = Makes (IsLog log) (values_in log) log.part old new P
 
 -- ---- the values before a call and after it
 
--- the value was added
-abbrev pub Appends : ℕ → List ℕ → List ℕ → Type 0
-Appends value before after = after ≡ before ++ value ∷ []
-
 -- the value was added at this place
 abbrev pub AppendsAt : ℕ → ℕ → List ℕ → List ℕ → Type 0
 AppendsAt value place before after = (place ≡ length before) × (after ≡ before ++ value ∷ [])
@@ -51,15 +47,3 @@ AppendsAt value place before after = (place ≡ length before) × (after ≡ bef
 -- x is what stands at place i
 abbrev pub HasAt : ℕ → Option ℕ → List ℕ → List ℕ → Type 0
 HasAt i x before after = (x ≡ slice_get before i) × (after ≡ before)
-
--- n is the number of values
-abbrev pub HasLength : ℕ → List ℕ → List ℕ → Type 0
-HasLength n before after = (n ≡ length before) × (after ≡ before)
-
--- they have the length n with the additions, which is at most the capacity
-abbrev pub Settles : ℕ → List ℕ → List ℕ → Type 0
-Settles capacity before after = (after ≡ before) × (length after ≤ capacity)
-
--- with the additions there are n of them, and nothing was placed
-abbrev pub Exceeds : ℕ → List ℕ → List ℕ → Type 0
-Exceeds n before after = (length before ≡ n) × (after ≡ before)

@@ -6,7 +6,8 @@ ghost use Rattle.attempt_lists.specs.Parts.{ChangesOnly};
 ghost use Rattle.tx_core.specs.Additions.{more_spare};
 ghost use Rattle.tx_core.specs.Seen.{LooksOnly};
 ghost use Rattle.tx_core.specs.Calls.{MayCall, LooksAt, HoldsAt, TouchesOnly, stop_in, memory_in, stopped_from, known, waiting};
-ghost use Rattle.tx_log.specs.Log.{MakesOf, Appends, AppendsAt, HasAt, HasLength, IsReadOf};
+ghost use Rattle.tx_core.specs.Sequences.{Appends, HasLength};
+ghost use Rattle.tx_log.specs.Log.{MakesOf, AppendsAt, HasAt, IsReadOf};
 
 use crate::part::LogPart;
 use cell_table::Meaning;

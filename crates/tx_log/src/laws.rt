@@ -5,7 +5,8 @@ ghost use Rattle.serial_terms.specs.Serial.{State, put_log, found, Allows};
 ghost use Rattle.serial_terms.specs.Serial as serial;
 ghost use Rattle.serial_terms.specs.declared.call.Call.TheVariants.{Append, AppendPlaced, LogRead, LogLen};
 ghost use Rattle.serial_terms.specs.declared.call.Reply.TheVariants.{Nothing, Value};
-ghost use Rattle.tx_log.specs.Log.{IsLog, IsOfLog, values_in, Appends, AppendsAt, HasAt, HasLength};
+ghost use Rattle.tx_core.specs.Sequences.{Appends, HasLength};
+ghost use Rattle.tx_log.specs.Log.{IsLog, IsOfLog, values_in, AppendsAt, HasAt};
 
 use crate::part::LogPart;
 

@@ -1,15 +1,11 @@
 //! The placing of a log's additions at the commit.
-ghost use Rattle.std.specs.Prelude.{◌≡◌, ℕ, ◌+◌, ◌-◌, ◌*◌, ◌^◌, ◌<◌, ◌≤◌, List, [], ◌++◌, length, slice_index, slice_set, All, Some, None, IsOk, IfErr, OnOk};
-ghost use Rattle.cell_table.specs.Cells.{after};
+ghost use Rattle.std.specs.Prelude.{◌≡◌, ℕ, ◌+◌, ◌-◌, ◌*◌, ◌^◌, ◌<◌, ◌≤◌, [], length, All, Some, IsOk, IfErr, OnOk};
 ghost use Rattle.cell_table.specs.declared.view.Stage.TheVariants.{Open};
-ghost use Rattle.cell_table.specs.Pass.{IsSole, IsHeld, trail_of};
-ghost use Rattle.attempt_lists.specs.Cells.{word_at};
+ghost use Rattle.cell_table.specs.Pass.{IsSole, IsHeld};
 ghost use Rattle.tx_core.specs.Additions.{HasSpare};
-ghost use Rattle.tx_core.specs.Causes.{FoundTwice, IsFoundAt};
-ghost use Rattle.tx_core.specs.Calls.{IsOpen, StepsAt, CausedIn, stopped_from, UsesAtMost, KeepsOthers, HoldsWrites, IsFoundIn, IsUnseen, waiting};
-ghost use Rattle.tx_core.specs.Sequences.{LocksUpTo, IsSettled, IsRefused, IsFullEnd, Placing};
-ghost use Rattle.tx_log.specs.Log.{IsLog, MakesOf, Settles, Exceeds, length_in, values_in, sequence_of};
-ghost use Rattle.tx_log.specs.Places.{IsFrom, IsEndOrFrom};
+ghost use Rattle.tx_core.specs.Calls.{IsOpen, StepsAt, UsesAtMost, KeepsOthers, known, waiting};
+ghost use Rattle.tx_core.specs.Sequences.{IsAddition, IsEndOrAddition, IsPlaced, IsSettled, IsSettledBy, IsStoppedAt, IsRefused, IsFullEnd, Placing, Settles, Exceeds, next_of};
+ghost use Rattle.tx_log.specs.Log.{MakesOf, sequence_of};
 
 use crate::part::LogPart;
 use cell_table::Meaning;
@@ -56,7 +52,10 @@ impl LogPart {
             };
         }
         match self.place_all(tx, shared) {
-            Ok(()) => Ok(()),
+            Ok(()) => {
+                tx.laid_over_law();
+                Ok(())
+            }
             Err(stop) => Err(ResolveEnd::Stop(stop)),
         }
     }
@@ -69,23 +68,17 @@ impl LogPart {
         requires place { place < self.now.capacity }
         requires small { value < 2 ^ 64 - 1 }
         requires spare { HasSpare tx.old.spare 1 }
-        ensures laid { OnOk result ((cells : List ℕ) → after cells tx.new.writes ≡ slice_set (after cells tx.old.writes) (self.now.end + 1 + place) (value + 1)) }
-        ensures written { OnOk result ((word_at tx.new.writes (self.now.end + 1 + place) ≡ Some (value + 1)) × IsHeld tx.new.pass (self.now.end + 1 + place)) }
+        ensures placed { OnOk result (IsPlaced (sequence_of self.now) (next_of (sequence_of self.now) place) value tx.old tx.new) }
+        ensures stopped { IfErr result (IsStoppedAt (λ c. c ≡ next_of (sequence_of self.now) place) tx.old tx.new) }
         ensures same { tx.new ≡ record tx.old { pass = tx.new.pass; state = tx.new.state; observations = tx.new.observations; versions = tx.new.versions; writes = tx.new.writes; spare = tx.new.spare; committing = tx.new.committing } }
-        ensures going { OnOk result (tx.new.state ≡ tx.old.state) }
-        ensures does { StepsAt (λ c. c ≡ self.now.end + 1 + place) 3 tx.old tx.new }
-        ensures locks { OnOk result (LocksUpTo 1 tx.old.pass tx.new.pass) }
-        ensures writes_held { HoldsWrites tx.old → OnOk result (HoldsWrites tx.new) }
+        ensures does { StepsAt (λ c. c ≡ next_of (sequence_of self.now) place) 3 tx.old tx.new }
         ensures used { UsesAtMost 1 1 tx.old.spare tx.new.spare }
-        ensures stopped { IfErr result (λ stop. (tx.new.state ≡ stopped_from tx.old.state) × IsFoundAt (self.now.end + 1 + place) stop × CausedIn tx.old tx.new stop) }
-        ensures twice { word_at tx.old.observations (self.now.end + 1 + place) ≡ None → IfErr result (FoundTwice (length (trail_of tx.old.pass)) (trail_of tx.new.pass)) }
         ensures sole { IsSole tx.old.pass → IsOk result }
     {
         tx.limits_law();
         let cell = self.end + 1 + place as u32;
         match tx.late_hold(cell) {
             Ok(_) => {
-                tx.laid_over_law();
                 tx.write_reserved(cell, value + 1);
                 Ok(())
             }
@@ -100,22 +93,17 @@ impl LogPart {
         requires undrawn { tx.old.pass.view.stage ≡ Open }
         requires part { self.now.end + self.now.capacity < length tx.old.table.opening }
         requires held { IsHeld tx.old.pass self.now.end }
+        requires found { known tx.old self.now.end ≡ Some shared }
         requires fits { shared + length (waiting self.now.part tx.old) ≤ self.now.capacity }
         requires small { All (λ v. v < 2 ^ 64 - 1) (waiting self.now.part tx.old) }
         requires spare { HasSpare tx.old.spare (length (waiting self.now.part tx.old)) }
         requires spare_write { length (waiting self.now.part tx.old) < tx.old.spare.writes }
-        ensures placed { OnOk result ((cells : List ℕ) → IsLog self.now (after cells tx.old.writes) → length_in self.now (after cells tx.old.writes) ≡ shared → IsLog self.now (after cells tx.new.writes) × (values_in self.now (after cells tx.new.writes) ≡ values_in self.now (after cells tx.old.writes) ++ waiting self.now.part tx.old)) }
-        ensures emptied { OnOk result ((tx.new.state ≡ tx.old.state) × (waiting self.now.part tx.new ≡ [])) }
-        ensures end { OnOk result ((word_at tx.new.writes self.now.end ≡ Some (shared + length (waiting self.now.part tx.old))) × IsHeld tx.new.pass self.now.end) }
-        ensures items { OnOk result ((k : ℕ) → k < length (waiting self.now.part tx.old) → (word_at tx.new.writes (self.now.end + 1 + (shared + k)) ≡ Some (slice_index (waiting self.now.part tx.old) k + 1)) × IsHeld tx.new.pass (self.now.end + 1 + (shared + k))) }
+        ensures settled { OnOk result (IsSettledBy (sequence_of self.now) (length (waiting self.now.part tx.old)) tx.old tx.new) }
+        ensures stopped { IfErr result (IsStoppedAt (IsAddition (sequence_of self.now) shared (length (waiting self.now.part tx.old))) tx.old tx.new) }
         ensures same { tx.new ≡ record tx.old { pass = tx.new.pass; state = tx.new.state; observations = tx.new.observations; versions = tx.new.versions; writes = tx.new.writes; additions = tx.new.additions; spare = tx.new.spare; committing = tx.new.committing } }
-        ensures does { StepsAt (IsEndOrFrom self.now shared (length (waiting self.now.part tx.old))) (3 * length (waiting self.now.part tx.old)) tx.old tx.new }
-        ensures locks { OnOk result (LocksUpTo (length (waiting self.now.part tx.old)) tx.old.pass tx.new.pass) }
-        ensures writes_held { HoldsWrites tx.old → OnOk result (HoldsWrites tx.new) }
+        ensures does { StepsAt (IsEndOrAddition (sequence_of self.now) shared (length (waiting self.now.part tx.old))) (3 * length (waiting self.now.part tx.old)) tx.old tx.new }
         ensures others { KeepsOthers self.now.part tx.old.additions tx.new.additions }
         ensures used { UsesAtMost (length (waiting self.now.part tx.old)) (length (waiting self.now.part tx.old) + 1) tx.old.spare tx.new.spare }
-        ensures stopped { IfErr result (λ stop. (tx.new.state ≡ stopped_from tx.old.state) × IsFoundIn (IsFrom self.now shared (length (waiting self.now.part tx.old))) stop × CausedIn tx.old tx.new stop) }
-        ensures twice { IfErr result (λ stop. IsUnseen tx.old stop → FoundTwice (length (trail_of tx.old.pass)) (trail_of tx.new.pass) stop) }
         ensures sole { IsSole tx.old.pass → IsOk result }
     {
         let mut place = shared;
@@ -125,7 +113,6 @@ impl LogPart {
                 Err(stop) => return Err(stop),
             }
         }
-        tx.laid_over_law();
         tx.write_reserved(self.end, place);
         Ok(())
     }

@@ -6,7 +6,8 @@ use Rattle.tx_core.specs.Calls.{waiting}
 use Rattle.tx_core.specs.Facts.{holds_wider, holds_then, holds_looks}
 use Rattle.tx_log.specs.Log.{IsLog, values_in}
 use Rattle.tx_log.proofs.Logs.{length-values}
-use Rattle.tx_log.proofs.OneRead.{holding_keeps, length_shown}
+use Rattle.tx_core.specs.OneCell.{holding_keeps}
+use Rattle.tx_log.proofs.OneRead.{length_shown}
 use Rattle.tx_log.proofs.part.LogPart.append_placed.Goals as goal
 
 pub returns-in-Ok-later-clause-placed : goal.returns-in-Ok-later-clause-placed

@@ -4,7 +4,8 @@ use Rattle.cell_table.specs.Cells.{after}
 use Rattle.tx_log.specs.Log.{IsLog, values_in}
 use Rattle.tx_core.specs.Calls.{waiting}
 use Rattle.tx_log.proofs.Logs.{length-values}
-use Rattle.tx_log.proofs.OneRead.{reading_is, reading_keeps, length_shown}
+use Rattle.tx_core.specs.OneCell.{reading_is, reading_keeps}
+use Rattle.tx_log.proofs.OneRead.{length_shown}
 use Rattle.tx_log.proofs.part.LogPart.len.Goals as goal
 
 pub returns-in-Ok-clause-length : goal.returns-in-Ok-clause-length

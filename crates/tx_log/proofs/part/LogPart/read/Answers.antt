@@ -2,7 +2,7 @@ use Rattle.std.proofs.Common.{◌≡◌, inl, inr, sym, ap, ◌∙◌, arith, So
 use Rattle.tx_core.specs.Tx.{Attempt}
 use Rattle.tx_core.specs.Facts.{looks_trans, touches_wider, known_stays, looks_wider, looks_then}
 use Rattle.tx_log.specs.Log.{IsReadOf}
-use Rattle.tx_log.proofs.OneRead.{Reading, reading_is, reading_keeps}
+use Rattle.tx_core.specs.OneCell.{Reading, reading_is, reading_keeps}
 use Rattle.tx_log.proofs.ReadAnswers.{read_entry, read_behind}
 use Rattle.tx_log.proofs.part.LogPart.read.Goals as goal
 

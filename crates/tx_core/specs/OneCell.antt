@@ -1,4 +1,4 @@
--- What the lock of one cell in the commit leaves of an attempt, and a write under it.
+-- What one call at one cell leaves of an attempt: a read, a lock, a lock in the commit, and a write under it.
 use Rattle.std.proofs.Common.{◌≡◌, ℕ, ◌+◌, ◌*◌, ◌≤◌, Bool, true, false, [], ◌∷◌, ◌++◌, ◌-◌, ◌⊎◌, inl, inr, length, Some, None, refl, sym, ap, subst, ◌∙◌, arith}
 use Rattle.std.specs.Prelude.{Option, IsSome}
 use Rattle.std.specs.Option.{option_or}
@@ -12,13 +12,41 @@ use Rattle.tx_core.specs.Calls.{TouchesOnly, UsesAtMost, HoldsWrites, Locks}
 use Rattle.tx_core.specs.Causes.{GrewBy}
 use Rattle.tx_core.specs.Facts.{grew_none, grew_more, grew_trans, held_kept, length_insert}
 use Rattle.tx_core.specs.Sequences.{LocksUpTo}
-use Rattle.tx_core.specs.Tx.{Attempt, ObservedLate}
+use Rattle.tx_core.specs.Tx.{Attempt, Observed, ObservedLate}
 use Rattle.tx_core.specs.Words.{put_other}
 
 known_or_not : (w o : Option ℕ) → ((w ≡ None) × (o ≡ None)) ⊎ IsSome (option_or w o)
 known_or_not (Some x) o = inr refl
 known_or_not None (Some x) = inr refl
 known_or_not None None = inl (refl, refl)
+
+module _ {M D : Type 0} where
+  -- nothing is new, or one observation is
+  abbrev pub Reading : Attempt M D → Attempt M D → ℕ → ℕ → Type 0
+  Reading a b cell x = (b ≡ a) ⊎ Observed a b cell x
+
+  pub reading_is : {R : ℕ → Type 0} (a b : Attempt M D) (cell x : ℕ)
+      → ((y : ℕ) → word_at a.writes cell ≡ Some y → R y × (b ≡ a))
+      → ((y : ℕ) → word_at a.writes cell ≡ None → word_at a.observations cell ≡ Some y → R y × (b ≡ a))
+      → (word_at a.writes cell ≡ None → word_at a.observations cell ≡ None → Observed a b cell x)
+      → Reading a b cell x
+  reading_is {R} a b cell x own seen new = by (word_at a.writes cell) (word_at a.observations cell) refl refl
+    where
+      by : (w o : Option ℕ) → word_at a.writes cell ≡ w → word_at a.observations cell ≡ o → Reading a b cell x
+      by (Some y) o is seen_is = inl (own y is).1
+      by None (Some y) is seen_is = inl (seen y is seen_is).1
+      by None None is seen_is = inr (new is seen_is)
+
+  pub reading_keeps : (a b : Attempt M D) (cell x : ℕ) → Reading a b cell x → (b.writes ≡ a.writes) × (b.additions ≡ a.additions)
+  reading_keeps a b cell x (inl same) = (ap (λ (t : Attempt M D). t.writes) same, ap (λ (t : Attempt M D). t.additions) same)
+  reading_keeps a b cell x (inr more) = (ap (λ (t : Attempt M D). t.writes) more.is, ap (λ (t : Attempt M D). t.additions) more.is)
+
+  -- the lock of a cell was taken, and no more than its observation is new
+  pub holding_keeps : (a b : Attempt M D) (cell : ℕ) {P Q : Type 0} → (b ≡ record a { pass = b.pass }) ⊎ (P × Q × (x : ℕ) × Observed a b cell x) → (b.writes ≡ a.writes) × (b.additions ≡ a.additions)
+  holding_keeps a b cell (inl same) = (ap (λ (t : Attempt M D). t.writes) same, ap (λ (t : Attempt M D). t.additions) same)
+  holding_keeps a b cell (inr more) = (ap (λ (t : Attempt M D). t.writes) more.3.is, ap (λ (t : Attempt M D). t.additions) more.3.is)
+
+-- ---- locks of the commit
 
 module _ {M D : Type 0} where
   -- a call of the commit that took the lock of a cell: what was observed is as before, or one observation of the cell more
