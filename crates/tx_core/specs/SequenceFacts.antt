@@ -1,10 +1,10 @@
 -- The additions of a sequence are placed or refused under the lock of its end, for the proofs of the structures.
-use Rattle.std.proofs.Common.{◌≡◌, ◌≢◌, ℕ, zero, suc, ◌+◌, ◌-◌, ◌*◌, ◌<◌, ◌≤◌, eqb, Bool, true, false, List, [], ◌∷◌, ◌++◌, ◌⊎◌, inl, inr, length, if◌then◌else◌, Some, None, refl, sym, ap, subst, ◌∙◌, arith, append-nil}
+use Rattle.std.proofs.Common.{◌≡◌, ◌≢◌, ℕ, zero, suc, ◌+◌, ◌-◌, ◌*◌, ◌<◌, ◌≤◌, eqb, Bool, true, false, List, [], ◌∷◌, ◌++◌, ◌⊎◌, inl, inr, length, set, if◌then◌else◌, Some, None, refl, sym, ap, subst, ◌∙◌, arith, append-nil}
 use Rattle.std.specs.Prelude.{Option, IsSome, slice_index}
 use Rattle.std.specs.Option.{option_or}
 use Rattle.std.proofs.lemmas.Bool.Decides.{nat_tests}
-use Rattle.std.proofs.lemmas.List.{length-append}
-use Rattle.cell_table.specs.Cells.{AllHold, after, has}
+use Rattle.std.proofs.lemmas.List.{length-append, get_or-set_other}
+use Rattle.cell_table.specs.Cells.{AllHold, after, has, writes_to}
 use Rattle.cell_table.specs.Rule.{cells_of}
 use Rattle.cell_table.specs.declared.view.Event.{Event}
 use Rattle.cell_table.specs.declared.view.Event.TheVariants.{ClockLoaded}
@@ -42,6 +42,15 @@ pub record IsSequenceOf (s : CellSequence) (IsFormed : List ℕ → Type 0) (val
   pub within : (cells : List ℕ) → IsFormed cells → s.length_of (slice_index cells s.end) ≤ s.capacity
   pub counts : (cells : List ℕ) → IsFormed cells → length (values cells) ≡ s.length_of (slice_index cells s.end)
   pub grows : (cells xs new : List ℕ) → IsFormed cells → s.length_of (slice_index cells s.end) + length xs ≤ s.capacity → HasMore s (slice_index cells s.end) xs cells new → IsFormed new × (values new ≡ values cells ++ xs)
+
+-- ---- cells after writes
+
+-- a cell that isn't written stays
+pub after_other : (cells : List ℕ) (ws : List (ℕ × ℕ)) (c : ℕ) → writes_to ws c ≡ false → slice_index (after cells ws) c ≡ slice_index cells c
+after_other cells [] c unwritten = refl
+after_other cells (w ∷ ws) c unwritten =
+    let off : c ≢ w.0 = λ same. grind (arith, nat_tests, unwritten, same) in
+    after_other (set cells w.0 w.1) ws c (grind (arith, nat_tests, unwritten)) ∙ get_or-set_other cells w.0 c w.1 0 off
 
 -- ---- observed cells
 

@@ -1,9 +1,7 @@
 -- The entries of a log, and what leaves them as they are.
-use Rattle.std.proofs.Common.{◌≡◌, ◌≢◌, ℕ, ◌+◌, ◌-◌, ◌<◌, false, List, [], ◌∷◌, length, take, drop, get_or, set, refl, sym, ap, ◌∙◌, arith}
+use Rattle.std.proofs.Common.{◌≡◌, ℕ, ◌+◌, ◌-◌, ◌<◌, List, length, take, drop, get_or, sym, ap, ◌∙◌, arith}
 use Rattle.std.specs.Prelude.{slice_index}
-use Rattle.std.proofs.lemmas.Bool.Decides.{nat_tests}
-use Rattle.std.proofs.lemmas.List.{length-map, length-take-le, length-drop, get_or-map, get_or-take, get_or-drop, get_or-set_other, same_lists}
-use Rattle.cell_table.specs.Cells.{after, writes_to}
+use Rattle.std.proofs.lemmas.List.{length-map, length-take-le, length-drop, get_or-map, get_or-take, get_or-drop, same_lists}
 use Rattle.tx_log.specs.Log.{IsLog, IsOfLog, length_in, word_in, values_in}
 use Rattle.tx_log.specs.declared.part.LogPart.{LogPart}
 
@@ -31,10 +29,3 @@ module _ (log : LogPart) where
         free = λ i far lt. word i lt ∙ is.free i (omega arith) lt;
       } in
       (log_there, same_lists _ _ (length-values others log_there ∙ long ∙ sym (length-values cells is)) (λ i d lt. let near : i < length_in log others = omega (arith, length-values others log_there) in value_is others i d log_there near ∙ ap (λ w. w - 1) (word i (omega (arith, is.within))) ∙ sym (value_is cells i d is (omega arith))))
-
--- a cell that isn't written stays
-pub after_other : (cells : List ℕ) (ws : List (ℕ × ℕ)) (c : ℕ) → writes_to ws c ≡ false → slice_index (after cells ws) c ≡ slice_index cells c
-after_other cells [] c unwritten = refl
-after_other cells (w ∷ ws) c unwritten =
-    let off : c ≢ w.0 = λ same. grind (arith, nat_tests, unwritten, same) in
-    after_other (set cells w.0 w.1) ws c (grind (arith, nat_tests, unwritten)) ∙ get_or-set_other cells w.0 c w.1 0 off

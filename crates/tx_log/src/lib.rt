@@ -12,4 +12,5 @@ mod resolve;
 #[cfg(test)]
 mod tests;
 
+pub use laws::serial_law;
 pub use part::LogPart;

@@ -1,5 +1,6 @@
 use Rattle.tx_core.specs.Words.{length_after}
-use Rattle.tx_log.proofs.Logs.{same_log, after_other}
+use Rattle.tx_core.specs.SequenceFacts.{after_other}
+use Rattle.tx_log.proofs.Logs.{same_log}
 use Rattle.tx_log.proofs.part.LogPart.keeps_apart_law.Goals as goal
 
 pub returns : goal.returns
