@@ -59,8 +59,20 @@ fn expect_full(rt: &impl Abort, tx: &mut Tx<'_, Untold>, there: u64, adding: u64
     assert_eq!(rt; tx.state(), TxState::Running);
 }
 
+// Takes this value, the first one, out of the queue.
+fn take(rt: &impl Abort, tx: &mut Tx<'_, Untold>, value: u64)
+    requires callable { MayCall tx.old }
+    requires part { 2 < length tx.old.table.opening }
+    ensures table { tx.new.table ≡ tx.old.table }
+    ensures callable { MayCall tx.new }
+    ensures draws { tx.new.pass.view.draws ≡ tx.old.pass.view.draws }
+    ensures others { (part : ℕ) → part ≢ 0 → waiting part tx.new ≡ waiting part tx.old }
+{
+    assert_eq!(rt; TWO.dequeue(tx), Ok(Some(value)));
+}
+
 // The head is 1, and the one item stands in the last place. Two are taken, the second of them the attempt's own, and what is
-// left of its additions comes into the first place.
+// added then comes into the first place.
 #[test]
 fn items_go_round_the_ring(rt: HostRuntime) -> Result<(), Fail> {
     let (table, pass) = CellTable::open(rt.alloc(), Untold, &[FROM_ONE + 1, 0, 7], 1)?;
@@ -68,11 +80,10 @@ fn items_go_round_the_ring(rt: HostRuntime) -> Result<(), Fail> {
         panic!(rt; "the attempt begins");
     };
     TWO.enqueue(&mut tx, 8).expect(&rt, "a value is added");
+    assert_eq!(rt; TWO.len(&mut tx), Ok(2));
+    take(&rt, &mut tx, 7);
+    take(&rt, &mut tx, 8);
     TWO.enqueue(&mut tx, 9).expect(&rt, "another is added");
-    assert_eq!(rt; TWO.len(&mut tx), Ok(3));
-    assert_eq!(rt; TWO.dequeue(&mut tx), Ok(Some(7)));
-    assert_eq!(rt; TWO.dequeue(&mut tx), Ok(Some(8)));
-    assert_eq!(rt; TWO.len(&mut tx), Ok(1));
     let mut pass = commit(&rt, tx);
     assert_eq!(rt; pass.seen(), 1);
     assert_eq!(rt; table.look_value(&mut pass, 0), 1);
