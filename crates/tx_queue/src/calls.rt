@@ -58,8 +58,8 @@ impl QueuePart {
         ensures { result ≡ length_in end + length (waiting self.now.part tx.now) }
     {
         tx.provided_law();
-        let (_, length) = head_and_length(end);
-        u64::from(length) + tx.pending(self.part)
+        let (_, shared) = head_and_length(end);
+        u64::from(shared) + tx.pending(self.part)
     }
 
     /// Takes the first value out of the queue, or answers `None` exactly where there is none. The values that the attempt
