@@ -1,6 +1,8 @@
 //! The one serial history of a store, as laws over what a pass knows of its cells.
 #![tactic(auto)]
 
+mod laws;
 mod meaning;
 
+pub use laws::{last_history_law, one_history_law};
 pub use meaning::StateMeaning;
