@@ -6,3 +6,4 @@ pub mod Merging
 pub mod Fitting
 pub mod Telling
 pub mod Now
+pub mod Keyed

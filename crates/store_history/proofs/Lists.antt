@@ -1,5 +1,5 @@
 -- Facts of each element, by the words of tables and by those of histories.
-use Rattle.std.proofs.Common.{◌≡◌, Bool, true, false, List, [], ◌∷◌, ⊎_elim, sym, ◌∙◌, subst}
+use Rattle.std.proofs.Common.{◌≡◌, Bool, true, false, List, [], ◌∷◌, inl, inr, ⊎_elim, refl, sym, ◌∙◌, subst}
 use Rattle.serial_terms.specs.Entries.{Each, IsIn}
 use Rattle.cell_table.specs.Sorted.{Each as EachOf}
 
@@ -26,3 +26,7 @@ module _ {A : Type 0} where
   pub in_each_of : (P : A → Type 0) (x : A) (xs : List A) → IsIn x xs → EachOf P xs → P x
   in_each_of P x [] i a = absurd i
   in_each_of P x (y ∷ ys) i a = ⊎_elim (λ e. subst P e a.0) (λ j. in_each_of P x ys j a.1) i
+
+  pub each_in : (P : A → Type 0) (xs : List A) → ((x : A) → IsIn x xs → P x) → Each P xs
+  each_in P [] f = tt
+  each_in P (x ∷ xs) f = (f x (inl refl), each_in P xs (λ y i. f y (inr i)))

@@ -1,5 +1,5 @@
 -- What a pass knows of the history of its store, at any moment and at the end.
-use Rattle.std.proofs.Common.{◌≡◌, ℕ, true, List, map, Some, sym, subst}
+use Rattle.std.proofs.Common.{◌≡◌, ℕ, true, List, Some, sym, subst}
 use Rattle.serial_terms.specs.declared.call.Done.{Done}
 use Rattle.serial_terms.specs.Purposes.{MergedIsRunning, RunningIsLegal, RunningStaysLawful}
 use Rattle.serial_terms.specs.Renaming.{NamedDone, by_key, by_name}
@@ -18,10 +18,10 @@ use Rattle.store_history.proofs.Fitting.{at_one, fits_now, fits_last}
 use Rattle.store_history.proofs.Telling.{history, one_history, only_books, book_of_caller}
 
 module _ {M D : Type 0} (lawful : M → List ℕ → Type 0) (explains : M → List (ℕ × ℕ) → List (ℕ × ℕ) → List D → Type 0)
-    (named : D → NamedDone) (formed : M → List ℕ → Type 0) (state_of : M → List ℕ → State) (lawful_state : M → State → Type 0) (allows : M → List Done → Type 0)
+    (named : List D → List NamedDone) (formed : M → List ℕ → Type 0) (state_of : M → List ℕ → State) (lawful_state : M → State → Type 0) (allows : M → List Done → Type 0)
     (within : (m : M) (cells : List ℕ) → formed m cells → IsWithinCapacity (state_of m cells))
     (lawful_means : (m : M) (cells : List ℕ) → lawful m cells → IsLawful (formed m) (state_of m) (lawful_state m) cells)
-    (explains_means : (m : M) (os ws : List (ℕ × ℕ)) (ds : List D) → explains m os ws ds → allows m (by_key (map named ds)) × Explains (formed m) (state_of m) os ws (by_name (map named ds)))
+    (explains_means : (m : M) (os ws : List (ℕ × ℕ)) (ds : List D) → explains m os ws ds → allows m (by_key (named ds)) × Explains (formed m) (state_of m) os ws (by_name (named ds)))
     (m : M) (p : PassState M D)
     (running : MergedIsRunning (lawful_state m)) (legal : RunningIsLegal (lawful_state m)) (stays : RunningStaysLawful (lawful_state m))
     (f : IsPass lawful explains p) where

@@ -1,5 +1,5 @@
 -- From the history of a table to the one history of the store.
-use Rattle.std.proofs.Common.{◌≡◌, ℕ, suc, ◌+◌, ◌-◌, ◌≤◌, true, false, eqb, List, [], ◌∷◌, map, inl, inr, ⊎_elim, sym, refl, ap, ◌∙◌, subst, arith, ne_eqb}
+use Rattle.std.proofs.Common.{◌≡◌, ℕ, suc, ◌+◌, ◌-◌, ◌≤◌, true, false, eqb, List, [], ◌∷◌, inl, inr, ⊎_elim, sym, refl, ap, ◌∙◌, subst, arith, ne_eqb}
 use Rattle.std.proofs.lemmas.Bool.{cond-false}
 use mathlib.Core.Logic.{dite}
 use native.Mathlib.Decide.{ℕ_discrete}
@@ -30,13 +30,10 @@ use Rattle.store_history.proofs.Books.{whole_book}
 use Rattle.store_history.proofs.Merging.{readers_all, readers_callers, all_each, of_places, with_all}
 use Rattle.store_history.proofs.Fitting.{Fits, holds_there}
 
-module _ {D : Type 0} (named : D → NamedDone) where
-  abbrev noted : List D → List NamedDone
-  noted ds = map named ds
-
-  recounted_entries : (k n : ℕ) (es : List (Noted D)) → recounted n (entries noted k es) ≡ records_from named k n es
+module _ {D : Type 0} (named : List D → List NamedDone) where
+  recounted_entries : (k n : ℕ) (es : List (Noted D)) → recounted n (entries named k es) ≡ records_from named k n es
   recounted_entries k n [] = refl
-  recounted_entries k n (e ∷ es) = ap (λ (z : List (Entry NamedDone)). record { caller = k; index = n; place = e.place; writer = e.writer; dones = noted e.content.dones } ∷ z) (recounted_entries k (n + 1) es)
+  recounted_entries k n (e ∷ es) = ap (λ (z : List (Entry NamedDone)). record { caller = k; index = n; place = e.place; writer = e.writer; dones = named e.content.dones } ∷ z) (recounted_entries k (n + 1) es)
 
   each_book : (P : Book NamedDone → Type 0) (bs : List (NotedBook D)) → ((b : NotedBook D) → IsIn b bs → P (book_of named b)) → Each P (books_of named bs)
   each_book P [] f = tt
@@ -54,15 +51,15 @@ module _ {D : Type 0} (named : D → NamedDone) where
       (λ q. let r = book_of_caller k bs (sym (cond-false (eqb b.caller k) true (has k (callers_of (writer_books bs))) (ne_eqb b.caller k q)) ∙ e) in (r.0, inr r.1, r.2))
 
 module _ {M D : Type 0} (lawful : M → List ℕ → Type 0) (explains : M → List (ℕ × ℕ) → List (ℕ × ℕ) → List D → Type 0)
-    (named : D → NamedDone) (formed : M → List ℕ → Type 0) (state_of : M → List ℕ → State) (lawful_state : M → State → Type 0) (allows : M → List Done → Type 0)
+    (named : List D → List NamedDone) (formed : M → List ℕ → Type 0) (state_of : M → List ℕ → State) (lawful_state : M → State → Type 0) (allows : M → List Done → Type 0)
     (within : (m : M) (cells : List ℕ) → formed m cells → IsWithinCapacity (state_of m cells))
     (lawful_means : (m : M) (cells : List ℕ) → lawful m cells → IsLawful (formed m) (state_of m) (lawful_state m) cells)
-    (explains_means : (m : M) (os ws : List (ℕ × ℕ)) (ds : List D) → explains m os ws ds → allows m (by_key (map named ds)) × Explains (formed m) (state_of m) os ws (by_name (map named ds))) where
+    (explains_means : (m : M) (os ws : List (ℕ × ℕ)) (ds : List D) → explains m os ws ds → allows m (by_key (named ds)) × Explains (formed m) (state_of m) os ws (by_name (named ds))) where
   abbrev by_names : List D → List Done
-  by_names ds = by_name (noted named ds)
+  by_names ds = by_name (named ds)
 
   abbrev by_keys : List D → List Done
-  by_keys ds = by_key (noted named ds)
+  by_keys ds = by_key (named ds)
 
   module _ (m : M) (v : View M D) (h : ℕ → Outcome D) (n : ℕ) (bs : List (NotedBook D)) (f : Fits lawful explains m v.opening h n bs)
       (running : MergedIsRunning (lawful_state m)) (legal : RunningIsLegal (lawful_state m)) (stays : RunningStaysLawful (lawful_state m)) where
@@ -100,16 +97,16 @@ module _ {M D : Type 0} (lawful : M → List ℕ → Type 0) (explains : M → L
     told = all_of by_names h bs n
 
     abbrev pub history : List (Entry NamedDone)
-    history = numbered (λ k. 0) (all_of (noted named) h bs n)
+    history = numbered (λ k. 0) (all_of named h bs n)
 
     runs_on : IsRunning (lawful_state m) (state 0) told (state n) × ((t : ℕ) → t ≤ n → RunsLawfully (lawful_state m) (state 0) (up_to t told) (state t))
     runs_on = running (λ p. writer_at by_names p (h p)) (readers_of by_names bs) state (of_places by_names h bs f.ascending) explain_themselves n
 
     by_names_told : numbered (λ k. 0) told ≡ entries_with by_name history
-    by_names_told = sym (with_numbered by_name (λ k. 0) (all_of (noted named) h bs n) ∙ ap (numbered (λ k. 0)) (with_all by_name (noted named) h bs n))
+    by_names_told = sym (with_numbered by_name (λ k. 0) (all_of named h bs n) ∙ ap (numbered (λ k. 0)) (with_all by_name named h bs n))
 
     by_keys_told : numbered (λ k. 0) (all_of by_keys h bs n) ≡ entries_with by_key history
-    by_keys_told = sym (with_numbered by_key (λ k. 0) (all_of (noted named) h bs n) ∙ ap (numbered (λ k. 0)) (with_all by_key (noted named) h bs n))
+    by_keys_told = sym (with_numbered by_key (λ k. 0) (all_of named h bs n) ∙ ap (numbered (λ k. 0)) (with_all by_key named h bs n))
 
     is_legal : IsLegalHistory (state 0) (entries_with by_name history) (state n)
     is_legal = subst (λ (z : List (Entry Done)). IsLegalHistory (state 0) z (state n)) by_names_told (legal (state 0) (state n) told runs_on.0).0
@@ -127,8 +124,8 @@ module _ {M D : Type 0} (lawful : M → List ℕ → Type 0) (explains : M → L
 
     own_books : Each (λ b. by_caller b.caller history ≡ b.records) (books_of named bs)
     own_books = each_book named (λ b. by_caller b.caller history ≡ b.records) bs (λ b i.
-        numbered_by b.caller (λ k. 0) (all_of (noted named) h bs n)
-        ∙ (ap (recounted 0) (whole_book (noted named) h bs b n f.ascending i (in_each_of _ b bs i f.rises) (in_each_of _ b bs i f.places) (in_each_of _ b bs i f.records))
+        numbered_by b.caller (λ k. 0) (all_of named h bs n)
+        ∙ (ap (recounted 0) (whole_book named h bs b n f.ascending i (in_each_of _ b bs i f.rises) (in_each_of _ b bs i f.places) (in_each_of _ b bs i f.records))
         ∙ recounted_entries named b.caller 0 b.entries))
 
     module _ (low : v.known ≤ n) (moments : Moments lawful explains m v h) where
@@ -143,6 +140,7 @@ module _ {M D : Type 0} (lawful : M → List ℕ → Type 0) (explains : M → L
       pub one_history : IsOneHistory lawful named state_of lawful_state allows m v bs history (state n)
       one_history = record {
         legal = is_legal;
+        lawful_end = (meant n).1;
         lawful_there = λ t. let s = (stays (state 0) (state n) told runs_on.0 (meant 0).1).1 t in (s.0, s.2, runs_to t s.0 s.1);
         allowed = all_allowed;
         own = own_books;
@@ -156,8 +154,8 @@ module _ {M D : Type 0} (lawful : M → List ℕ → Type 0) (explains : M → L
 
     module _ (every : (w k : ℕ) (r : Record D) → h w ≡ decided k r → HasBook k) where
       all_have_books : Each (λ e. HasBook e.caller) history
-      all_have_books = numbered_each (λ e. HasBook e.caller) (λ e i b. b) (λ k. 0) (all_of (noted named) h bs n)
-          (all_each (noted named) (λ e. HasBook e.caller) h bs every (λ p. readers_callers (noted named) HasBook p bs (λ b i. (book_of named b, book_in named b bs i, refl))) n)
+      all_have_books = numbered_each (λ e. HasBook e.caller) (λ e i b. b) (λ k. 0) (all_of named h bs n)
+          (all_each named (λ e. HasBook e.caller) h bs every (λ p. readers_callers named HasBook p bs (λ b i. (book_of named b, book_in named b bs i, refl))) n)
 
       pub only_books : IsHistoryOf (books_of named bs) history
       only_books = record {

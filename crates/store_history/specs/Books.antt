@@ -1,14 +1,14 @@
 -- The books of a pass as books of records.
-use Rattle.std.specs.Prelude.{ℕ, ◌+◌, List, [], ◌∷◌, map}
+use Rattle.std.specs.Prelude.{ℕ, ◌+◌, List, [], ◌∷◌}
 use Rattle.serial_terms.specs.Entries.{Entry, Book}
 use Rattle.serial_terms.specs.Renaming.{NamedDone}
 use Rattle.cell_table.specs.declared.view.Noted.{Noted}
 use Rattle.cell_table.specs.declared.view.NotedBook.{NotedBook}
 
--- `named` gives a call as a table keeps it with its key and the name of its key
-module _ {D : Type 0} (named : D → NamedDone) where
+-- `named` gives calls as a table keeps them with their keys and the names of their keys
+module _ {D : Type 0} (named : List D → List NamedDone) where
   abbrev pub record_of : ℕ → ℕ → Noted D → Entry NamedDone
-  record_of caller index e = record { caller = caller; index = index; place = e.place; writer = e.writer; dones = map named e.content.dones }
+  record_of caller index e = record { caller = caller; index = index; place = e.place; writer = e.writer; dones = named e.content.dones }
 
   -- the entries of a caller as records with the indices n, n + 1 and so on
   abbrev pub records_from : ℕ → ℕ → List (Noted D) → List (Entry NamedDone)

@@ -21,7 +21,7 @@ pub record IsSeen (lawful_state : State → Type 0) (queues : ℕ) (start : Stat
   pub lawful : lawful_state state
   pub run : (end : State) × Runs state seen.dones end × EndsAs queues end seen.end
 
-module _ {M D : Type 0} (lawful : M → List ℕ → Type 0) (named : D → NamedDone) (state_of : M → List ℕ → State) where
+module _ {M D : Type 0} (lawful : M → List ℕ → Type 0) (named : List D → List NamedDone) (state_of : M → List ℕ → State) where
   -- The view vouches for a sight: it has observations that stand at the place of the sight, and wherever they hold in lawful
   -- cells the calls run from the state of the cells to an end as the sight says
   pub record VouchesFor (m : M) (v : View M D) (queues : ℕ) (seen : Seen NamedDone) : Type 0 where
@@ -36,6 +36,7 @@ module _ {M D : Type 0} (lawful : M → List ℕ → Type 0) (named : D → Name
     -- in which all is seen that the view vouches for. Its calls run by the names of their keys, since the cells know no keys
     pub record IsOneHistory (m : M) (v : View M D) (books : List (NotedBook D)) (history : List (Entry NamedDone)) (end : State) : Type 0 where
       pub legal : IsLegalHistory (state_of m v.opening) (entries_with by_name history) end
+      pub lawful_end : lawful_state m end
       -- the state at each place is lawful
       pub lawful_there : (place : ℕ) → (s : State) × lawful_state m s × RunsLawfully (lawful_state m) (state_of m v.opening) (up_to place (entries_with by_name history)) s
       pub allowed : Each (λ e. allows m e.dones) (entries_with by_key history)

@@ -1,3 +1,4 @@
 pub mod Meanings
 pub mod Books
 pub mod Histories
+pub mod Keyed

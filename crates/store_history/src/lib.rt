@@ -4,5 +4,5 @@
 mod laws;
 mod meaning;
 
-pub use laws::{last_history_law, one_history_law};
+pub use laws::{keyed_history_law, last_history_law, one_history_law};
 pub use meaning::StateMeaning;

@@ -1,6 +1,6 @@
 //! What the cells of a store mean.
 
-ghost use Rattle.std.specs.Prelude.{ℕ, List, map};
+ghost use Rattle.std.specs.Prelude.{ℕ, List};
 ghost use Rattle.cell_table.specs.Cells.{AllHold, after};
 ghost use Rattle.serial_terms.specs.declared.call.Done.{Done};
 ghost use Rattle.serial_terms.specs.Renaming.{NamedDone, by_key, by_name};
@@ -12,8 +12,8 @@ use serial_terms::purpose::Lawful;
 
 /// A meaning of cells by which they stand for the state of a store.
 pub trait StateMeaning: Meaning + Lawful {
-    /// A call as the table keeps it, with its key and the name of its key.
-    ghost named: { Self.Done → NamedDone };
+    /// Calls as the table keeps them, with their keys and the names of their keys.
+    ghost named: { List Self.Done → List NamedDone };
 
     /// The lists of cells that stand for a state.
     ghost formed: { Self → List ℕ → Type 0 };
@@ -28,5 +28,5 @@ pub trait StateMeaning: Meaning + Lawful {
     ghost lawful_means: { (m : Self) (cells : List ℕ) → Self.lawful m cells → IsLawful (formed m) (state_of m) (Self.lawful_state m) cells };
 
     /// A record that is explained is an allowed one, and its calls run wherever its observations hold.
-    ghost explains_means: { (m : Self) (observations writes : List (ℕ × ℕ)) (dones : List Self.Done) → Self.explains m observations writes dones → Self.allowed m (by_key (map named dones)) × Explains (formed m) (state_of m) observations writes (by_name (map named dones)) };
+    ghost explains_means: { (m : Self) (observations writes : List (ℕ × ℕ)) (dones : List Self.Done) → Self.explains m observations writes dones → Self.allowed m (by_key (named dones)) × Explains (formed m) (state_of m) observations writes (by_name (named dones)) };
 }
