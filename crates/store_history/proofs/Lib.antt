@@ -7,3 +7,6 @@ pub mod Fitting
 pub mod Telling
 pub mod Now
 pub mod Keyed
+pub mod Sorting
+pub mod Merged
+pub mod Gathering

@@ -2,3 +2,4 @@ pub mod Meanings
 pub mod Books
 pub mod Histories
 pub mod Keyed
+pub mod Records

@@ -3,6 +3,8 @@
 
 mod laws;
 mod meaning;
+mod merge;
 
 pub use laws::{keyed_history_law, last_history_law, one_history_law};
 pub use meaning::StateMeaning;
+pub use merge::{RecordBook, merge_books, room_for};
