@@ -1,15 +1,19 @@
 -- The history at the end with keys in the place of their names.
-use Rattle.std.proofs.Common.{◌≡◌, ℕ, List, [], ◌∷◌, inl, inr, ⊎_elim, sym, refl, ap, subst}
+use Rattle.std.proofs.Common.{◌≡◌, ◌≢◌, ℕ, ◌+◌, ◌<◌, List, [], ◌∷◌, inl, inr, ⊎_elim, sym, refl, ap, subst, arith}
 use Rattle.std.specs.Prelude.{Option}
 use Rattle.serial_terms.specs.declared.call.Done.{Done}
-use Rattle.serial_terms.specs.Entries.{Entry, IsIn, Book, IsHistoryOf}
-use Rattle.serial_terms.specs.Laws.{OrderIsUnique, RenamingKeepsHistories}
+use Rattle.serial_terms.specs.Entries.{Entry, Each, IsIn, Book, AreBooks, IsBookFrom, IsHistoryOf}
+use Rattle.serial_terms.specs.Laws.{OneBookIsAHistory, OrderIsUnique, RenamingKeepsHistories}
 use Rattle.serial_terms.specs.Purposes.{LawfulRunsAreLegal}
 use Rattle.serial_terms.specs.Renaming.{NamedDone, IsOneToOne, AreNamesOfKeys, AreNamesIn, by_key, entry_with, entries_with}
 use Rattle.serial_terms.specs.Serial.{State}
+use Rattle.cell_table.specs.Sorted.{Each as EachOf, IsAscendingBy}
+use Rattle.cell_table.specs.IsPass.{PlacesFrom}
+use Rattle.cell_table.specs.Pass.{book_key}
+use Rattle.cell_table.specs.declared.view.Noted.{Noted}
 use Rattle.cell_table.specs.declared.view.NotedBook.{NotedBook}
 use Rattle.cell_table.specs.declared.view.View.{View}
-use Rattle.store_history.specs.Books.{books_of}
+use Rattle.store_history.specs.Books.{records_from, books_of}
 use Rattle.store_history.specs.Histories.{LastHistory}
 use Rattle.store_history.specs.Keyed.{book_with, books_with, IsKeyedHistory, KeyedHistory}
 use Rattle.store_history.proofs.Lists.{in_each, each_in}
@@ -42,9 +46,9 @@ module _ {A B : Type 0} (f : List A → List B) where
         subst (λ (z : Entry B). IsIn z g) e.2 (of.all (book_with f o.0) (entry_with f e.0) (book_in o.0 bs o.1) (with_in e.0 o.0.records o.2))
 
 module _ {M D : Type 0} (lawful : M → List ℕ → Type 0) (named : List D → List NamedDone) (state_of : M → List ℕ → State) (lawful_state : M → State → Type 0) (allows : M → List Done → Type 0)
-    (m : M) (v : View M D) (books : List (NotedBook D)) (values : List ℕ)
+    (m : M) (v : View M D) (books : List (NotedBook D)) (seen : ℕ) (values : List ℕ)
     (unique : OrderIsUnique) (renamed : (name : ℕ → ℕ → Option ℕ) → IsOneToOne name → RenamingKeepsHistories name) (legal : LawfulRunsAreLegal (lawful_state m)) where
-  pub keyed : LastHistory lawful named state_of lawful_state allows m v books values → KeyedHistory lawful named state_of allows m v books values
+  pub keyed : LastHistory lawful named state_of lawful_state allows m v books seen values → KeyedHistory lawful named state_of allows m v books values
   keyed last name one names history of =
       let h : List (Entry NamedDone) = last.0 in let is = last.1.records in let told = last.1.one in let start : State = state_of m v.opening in let end : State = state_of m values in
       let in_names : AreNamesIn name h = each_in (λ e. AreNamesOfKeys name e.dones) h (λ e i. let o = is.only e i in
@@ -57,3 +61,22 @@ module _ {M D : Type 0} (lawful : M → List ℕ → Type 0) (named : List D →
         allowed = told.allowed;
         sights = λ queues seen y n. let s = told.sights queues seen y in kept.sights h in_names seen n queues start (s.state, legal start s.state _ s.there, s.run);
       })
+
+-- ---- the books by key are books
+
+module _ {D : Type 0} (named : List D → List NamedDone) where
+  book_from : (k n p : ℕ) (es : List (Noted D)) → PlacesFrom p es → IsBookFrom k n p (entries_with by_key (records_from named k n es))
+  book_from k n p [] r = tt
+  book_from k n p (e ∷ es) r = (refl, refl, r.0, r.1, book_from k (n + 1) e.place es r.2)
+
+  of_caller : (k n : ℕ) (es : List (Noted D)) → Each (λ e. e.caller ≡ k) (entries_with by_key (records_from named k n es))
+  of_caller k n [] = tt
+  of_caller k n (e ∷ es) = (refl, of_caller k (n + 1) es)
+
+  others : (k : ℕ) (bs : List (NotedBook D)) → EachOf (λ b. k < b.caller) bs → Each (λ c. k ≢ c.caller) (books_with by_key (books_of named bs))
+  others k [] a = tt
+  others k (b ∷ bs) a = let l = a.0 in ((λ e. omega arith), others k bs a.1)
+
+  pub are_books : OneBookIsAHistory → (bs : List (NotedBook D)) → IsAscendingBy book_key bs → EachOf (λ b. PlacesFrom 0 b.entries) bs → AreBooks (books_with by_key (books_of named bs))
+  are_books law [] a r = tt
+  are_books law (b ∷ bs) a r = (of_caller b.caller 0 b.entries, (law b.caller (entries_with by_key (records_from named b.caller 0 b.entries)) (book_from b.caller 0 0 b.entries r.0)).0, others b.caller bs a.0, are_books law bs a.1 r.1)

@@ -19,6 +19,10 @@ module _ {A : Type 0} where
   each_of_map P Q f [] a = tt
   each_of_map P Q f (x ∷ xs) a = (f x a.0, each_of_map P Q f xs a.1)
 
+  pub each_of_both : (P Q R : A → Type 0) → ((x : A) → P x → Q x → R x) → (xs : List A) → EachOf P xs → EachOf Q xs → EachOf R xs
+  each_of_both P Q R f [] a b = tt
+  each_of_both P Q R f (x ∷ xs) a b = (f x a.0 b.0, each_of_both P Q R f xs a.1 b.1)
+
   pub each_of_all : (P : A → Type 0) (xs : List A) → ((x : A) → P x) → EachOf P xs
   each_of_all P [] f = tt
   each_of_all P (x ∷ xs) f = (f x, each_of_all P xs f)

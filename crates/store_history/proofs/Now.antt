@@ -6,16 +6,16 @@ use Rattle.serial_terms.specs.Renaming.{NamedDone, by_key, by_name}
 use Rattle.serial_terms.specs.Serial.{State, IsWithinCapacity}
 use Rattle.cell_table.specs.Cells.{has}
 use Rattle.cell_table.specs.History.{cells_at}
-use Rattle.cell_table.specs.IsPass.{IsPass}
+use Rattle.cell_table.specs.IsPass.{IsPass, writer_books}
 use Rattle.cell_table.specs.Moments.{Moments}
-use Rattle.cell_table.specs.Pass.{PassState}
+use Rattle.cell_table.specs.Pass.{PassState, IsSole}
 use Rattle.cell_table.specs.Rule.{callers_of}
 use Rattle.cell_table.specs.Settled.{Settled, Words}
 use Rattle.cell_table.specs.declared.view.Book.{Book}
 use Rattle.store_history.specs.Meanings.{Explains, IsLawful}
-use Rattle.store_history.specs.Histories.{IsOneHistory, OneHistory, LastHistory}
-use Rattle.store_history.proofs.Fitting.{at_one, fits_now, fits_last}
-use Rattle.store_history.proofs.Telling.{history, one_history, only_books, book_of_caller}
+use Rattle.store_history.specs.Histories.{IsWholeHistory, OneHistory, WholeHistory, LastHistory}
+use Rattle.store_history.proofs.Fitting.{at_one, every, fits_now, fits_last}
+use Rattle.store_history.proofs.Telling.{history, one_history, whole_history, book_of_caller}
 
 module _ {M D : Type 0} (lawful : M → List ℕ → Type 0) (explains : M → List (ℕ × ℕ) → List (ℕ × ℕ) → List D → Type 0)
     (named : List D → List NamedDone) (formed : M → List ℕ → Type 0) (state_of : M → List ℕ → State) (lawful_state : M → State → Type 0) (allows : M → List Done → Type 0)
@@ -33,15 +33,25 @@ module _ {M D : Type 0} (lawful : M → List ℕ → Type 0) (explains : M → L
         one_history lawful explains named formed state_of lawful_state allows within lawful_means explains_means m p.view k.history k.clock p.books fits running legal stays k.known t,
       )
 
-  pub last : (words : Words) → p.view.meaning ≡ Some m → Settled lawful explains p words → LastHistory lawful named state_of lawful_state allows m p.view p.books words.values
+  book_there : (k : ℕ) → has k (callers_of p.view.books) ≡ true → has k (callers_of (writer_books p.books)) ≡ true
+  book_there k = subst (λ (z : List (Book D)). has k (callers_of z) ≡ true) (sym f.books)
+
+  -- with every caller number
+  pub whole : Moments lawful explains f.legal.meaning p.view f.legal.history → p.view.meaning ≡ Some m → IsSole p → WholeHistory lawful named state_of lawful_state allows m p.view p.books p.seen
+  whole there is sole = let k = f.legal in let t = at_one lawful explains p f m is k.meaning k.history k.is there in
+      let fits = fits_now lawful explains p f m is t in (
+        history lawful explains named formed state_of lawful_state allows within lawful_means explains_means m p.view k.history k.clock p.books fits running legal stays,
+        state_of m (cells_at p.view.opening k.history k.clock),
+        whole_history lawful explains named formed state_of lawful_state allows within lawful_means explains_means m p.view k.history k.clock p.books fits running legal stays
+            (λ w j r e. book_of_caller named j p.books (book_there j (every lawful explains p f sole j (k.callers w j r e).1))) p.seen f.places k.known t,
+      )
+
+  pub last : (words : Words) → p.view.meaning ≡ Some m → Settled lawful explains p words → LastHistory lawful named state_of lawful_state allows m p.view p.books p.seen words.values
   last words is s = let t = at_one lawful explains p f m is s.meaning s.history s.is s.moments in
       let fits = fits_last lawful explains p f m is words s t in
       let h = history lawful explains named formed state_of lawful_state allows within lawful_means explains_means m p.view s.history s.clock p.books fits running legal stays in (
         h,
-        record {
-          one = subst (λ (z : List ℕ). IsOneHistory lawful named state_of lawful_state allows m p.view p.books h (state_of m z)) (sym s.values)
-              (one_history lawful explains named formed state_of lawful_state allows within lawful_means explains_means m p.view s.history s.clock p.books fits running legal stays s.known t);
-          records = only_books lawful explains named formed state_of lawful_state allows within lawful_means explains_means m p.view s.history s.clock p.books fits running legal stays
-              (λ w k r e. book_of_caller named k p.books (subst (λ (z : List (Book D)). has k (callers_of z) ≡ true) (sym f.books) (s.every k (s.callers w k r e).2)));
-        },
+        subst (λ (z : List ℕ). IsWholeHistory lawful named state_of lawful_state allows m p.view p.books p.seen h (state_of m z)) (sym s.values)
+            (whole_history lawful explains named formed state_of lawful_state allows within lawful_means explains_means m p.view s.history s.clock p.books fits running legal stays
+            (λ w k r e. book_of_caller named k p.books (book_there k (s.every k (s.callers w k r e).2))) p.seen f.places s.known t),
       )

@@ -11,6 +11,7 @@ use Rattle.serial_terms.specs.Renaming.{NamedDone, by_key, by_name, entries_with
 use Rattle.serial_terms.specs.Runs.{RunsBy, WriterRuns, ExplainThemselves}
 use Rattle.serial_terms.specs.Serial.{State, IsReplied, step, IsWithinCapacity}
 use Rattle.serial_terms.specs.Sights.{Seen}
+use Rattle.cell_table.specs.Sorted.{Each as EachOf}
 use Rattle.cell_table.specs.Cells.{AllHold, has}
 use Rattle.cell_table.specs.History.{Outcome, unused, pending, decided, effect, cells_at}
 use Rattle.cell_table.specs.IsPass.{writer_books}
@@ -22,8 +23,8 @@ use Rattle.cell_table.specs.declared.view.Record.{Record}
 use Rattle.cell_table.specs.declared.view.View.{View}
 use Rattle.store_history.specs.Meanings.{Explains, IsLawful}
 use Rattle.store_history.specs.Books.{records_from, book_of, books_of}
-use Rattle.store_history.specs.Histories.{IsSeen, VouchesFor, IsOneHistory}
-use Rattle.store_history.proofs.Lists.{in_each, in_each_of}
+use Rattle.store_history.specs.Histories.{IsSeen, VouchesFor, IsOneHistory, IsWholeHistory}
+use Rattle.store_history.proofs.Lists.{in_each, each_in, in_each_of}
 use Rattle.store_history.proofs.Numbered.{from_by, to_by, recounted, numbered_by, numbered_each, numbered_runs, with_numbered, order_back}
 use Rattle.store_history.proofs.Places.{entries, writer_at, readers_of, all_of}
 use Rattle.store_history.proofs.Books.{whole_book}
@@ -42,6 +43,14 @@ module _ {D : Type 0} (named : List D → List NamedDone) where
   book_in : (b : NotedBook D) (bs : List (NotedBook D)) → IsIn b bs → IsIn (book_of named b) (books_of named bs)
   book_in b [] i = absurd i
   book_in b (c ∷ cs) i = ⊎_elim (λ e. inl (ap (book_of named) e)) (λ j. inr (book_in b cs j)) i
+
+  places_from : (seen k n : ℕ) (es : List (Noted D)) → EachOf (λ e. e.place ≤ seen) es → Each (λ x. x.place ≤ seen) (records_from named k n es)
+  places_from seen k n [] a = tt
+  places_from seen k n (e ∷ es) a = (a.0, places_from seen k (n + 1) es a.1)
+
+  places_low : (seen : ℕ) (bs : List (NotedBook D)) → EachOf (λ b. EachOf (λ e. e.place ≤ seen) b.entries) bs → Each (λ c. Each (λ x. x.place ≤ seen) c.records) (books_of named bs)
+  places_low seen [] a = tt
+  places_low seen (b ∷ bs) a = (places_from seen b.caller 0 b.entries a.0, places_low seen bs a.1)
 
   -- a caller of the books has its book
   pub book_of_caller : (k : ℕ) (bs : List (NotedBook D)) → has k (callers_of (writer_books bs)) ≡ true → (b : Book NamedDone) × IsIn b (books_of named bs) × (b.caller ≡ k)
@@ -157,10 +166,18 @@ module _ {M D : Type 0} (lawful : M → List ℕ → Type 0) (explains : M → L
       all_have_books = numbered_each (λ e. HasBook e.caller) (λ e i b. b) (λ k. 0) (all_of named h bs n)
           (all_each named (λ e. HasBook e.caller) h bs every (λ p. readers_callers named HasBook p bs (λ b i. (book_of named b, book_in named b bs i, refl))) n)
 
-      pub only_books : IsHistoryOf (books_of named bs) history
+      only_books : IsHistoryOf (books_of named bs) history
       only_books = record {
         order = order_back by_name history is_legal.order;
         all = λ b e i j. from_by b.caller e history (subst (IsIn e) (sym (in_each (λ c. by_caller c.caller history ≡ c.records) b (books_of named bs) i own_books)) j);
         only = λ e i. let c : HasBook e.caller = in_each (λ x. HasBook x.caller) e history i all_have_books in
             (c.0, c.1, subst (IsIn e) (in_each (λ b. by_caller b.caller history ≡ b.records) c.0 (books_of named bs) c.1 own_books) (to_by c.0.caller e history (sym c.2) i));
+      }
+
+      pub whole_history : (seen : ℕ) → EachOf (λ b. EachOf (λ e. e.place ≤ seen) b.entries) bs → (low : v.known ≤ n) → Moments lawful explains m v h → IsWholeHistory lawful named state_of lawful_state allows m v bs seen history (state n)
+      whole_history seen places low moments = record {
+        one = one_history low moments;
+        records = only_books;
+        places = each_in (λ e. e.place ≤ seen) history (λ e i. let b = only_books.only e i in
+            in_each (λ x. x.place ≤ seen) e b.0.records b.2 (in_each (λ c. Each (λ x. x.place ≤ seen) c.records) b.0 (books_of named bs) b.1 (places_low named seen bs places)));
       }

@@ -49,11 +49,16 @@ module _ {M D : Type 0} (lawful : M → List ℕ → Type 0) (named : List D →
     abbrev pub OneHistory : M → View M D → List (NotedBook D) → Type 0
     OneHistory m v books = (history : List (Entry NamedDone)) × (end : State) × IsOneHistory m v books history end
 
-    -- The history at the end: it has the records of these books and no other, and its end is the state of the values that the
-    -- cells are left with
-    pub record IsLastHistory (m : M) (v : View M D) (books : List (NotedBook D)) (values : List ℕ) (history : List (Entry NamedDone)) : Type 0 where
-      pub one : IsOneHistory m v books history (state_of m values)
+    -- A history that has the records of these books and no other, where no place that is in it is above `seen`
+    pub record IsWholeHistory (m : M) (v : View M D) (books : List (NotedBook D)) (seen : ℕ) (history : List (Entry NamedDone)) (end : State) : Type 0 where
+      pub one : IsOneHistory m v books history end
       pub records : IsHistoryOf (books_of named books) history
+      pub places : Each (λ e. e.place ≤ seen) history
 
-    abbrev pub LastHistory : M → View M D → List (NotedBook D) → List ℕ → Type 0
-    LastHistory m v books values = (history : List (Entry NamedDone)) × IsLastHistory m v books values history
+    -- what a pass with every caller number knows
+    abbrev pub WholeHistory : M → View M D → List (NotedBook D) → ℕ → Type 0
+    WholeHistory m v books seen = (history : List (Entry NamedDone)) × (end : State) × IsWholeHistory m v books seen history end
+
+    -- the history at the end, which is the state of the values that the cells are left with
+    abbrev pub LastHistory : M → View M D → List (NotedBook D) → ℕ → List ℕ → Type 0
+    LastHistory m v books seen values = (history : List (Entry NamedDone)) × IsWholeHistory m v books seen history (state_of m values)

@@ -3,3 +3,4 @@ pub mod Books
 pub mod Histories
 pub mod Keyed
 pub mod Records
+pub mod Plain

@@ -1,10 +1,14 @@
 //! The one serial history of a store, as laws over what a pass knows of its cells.
 #![tactic(auto)]
 
+mod close;
 mod laws;
 mod meaning;
 mod merge;
+#[cfg(test)]
+mod tests;
 
-pub use laws::{keyed_history_law, last_history_law, one_history_law};
+pub use close::close_with_history;
+pub use laws::{books_by_key_law, one_history_law, whole_history_law};
 pub use meaning::StateMeaning;
 pub use merge::{RecordBook, merge_books, room_for};
