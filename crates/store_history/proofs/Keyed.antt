@@ -9,10 +9,9 @@ use Rattle.serial_terms.specs.Renaming.{NamedDone, IsOneToOne, AreNamesOfKeys, A
 use Rattle.serial_terms.specs.Serial.{State}
 use Rattle.cell_table.specs.Sorted.{Each as EachOf, IsAscendingBy}
 use Rattle.cell_table.specs.IsPass.{PlacesFrom}
-use Rattle.cell_table.specs.Pass.{book_key}
+use Rattle.cell_table.specs.Pass.{PassState, book_key}
 use Rattle.cell_table.specs.declared.view.Noted.{Noted}
 use Rattle.cell_table.specs.declared.view.NotedBook.{NotedBook}
-use Rattle.cell_table.specs.declared.view.View.{View}
 use Rattle.store_history.specs.Books.{records_from, books_of}
 use Rattle.store_history.specs.Histories.{LastHistory}
 use Rattle.store_history.specs.Keyed.{book_with, books_with, IsKeyedHistory, KeyedHistory}
@@ -46,20 +45,20 @@ module _ {A B : Type 0} (f : List A → List B) where
         subst (λ (z : Entry B). IsIn z g) e.2 (of.all (book_with f o.0) (entry_with f e.0) (book_in o.0 bs o.1) (with_in e.0 o.0.records o.2))
 
 module _ {M D : Type 0} (lawful : M → List ℕ → Type 0) (named : List D → List NamedDone) (state_of : M → List ℕ → State) (lawful_state : M → State → Type 0) (allows : M → List Done → Type 0)
-    (m : M) (v : View M D) (books : List (NotedBook D)) (seen : ℕ) (values : List ℕ)
+    (m : M) (p : PassState M D) (values : List ℕ)
     (unique : OrderIsUnique) (renamed : (name : ℕ → ℕ → Option ℕ) → IsOneToOne name → RenamingKeepsHistories name) (legal : LawfulRunsAreLegal (lawful_state m)) where
-  pub keyed : LastHistory lawful named state_of lawful_state allows m v books seen values → KeyedHistory lawful named state_of allows m v books values
+  pub keyed : LastHistory lawful named state_of lawful_state allows m p values → KeyedHistory lawful named state_of allows m p values
   keyed last name one names history of =
-      let h : List (Entry NamedDone) = last.0 in let is = last.1.records in let told = last.1.one in let start : State = state_of m v.opening in let end : State = state_of m values in
+      let h : List (Entry NamedDone) = last.0 in let is = last.1.records in let told = last.1.one in let start : State = state_of m p.view.opening in let end : State = state_of m values in
       let in_names : AreNamesIn name h = each_in (λ e. AreNamesOfKeys name e.dones) h (λ e i. let o = is.only e i in
-      in_each (λ x. AreNamesOfKeys name x.dones) e o.0.records o.2 (in_each (λ b. AreNamesIn name b.records) o.0 (books_of named books) o.1 names)) in
+      in_each (λ x. AreNamesOfKeys name x.dones) e o.0.records o.2 (in_each (λ b. AreNamesIn name b.records) o.0 (books_of named p.books) o.1 names)) in
       let kept = renamed name one in
       let by_keys_legal = kept.histories h in_names start end told.legal in
-      let same : entries_with by_key h ≡ history = sym (unique history (entries_with by_key h) of.order by_keys_legal.order (there by_key (books_of named books) h is history of) (back by_key (books_of named books) h is history of)) in
-      subst (IsKeyedHistory lawful named state_of allows m v values name) same (record {
+      let same : entries_with by_key h ≡ history = sym (unique history (entries_with by_key h) of.order by_keys_legal.order (there by_key (books_of named p.books) h is history of) (back by_key (books_of named p.books) h is history of)) in
+      subst (IsKeyedHistory lawful named state_of allows m p values name) same (record {
         legal = by_keys_legal;
         allowed = told.allowed;
-        sights = λ queues seen y n. let s = told.sights queues seen y in kept.sights h in_names seen n queues start (s.state, legal start s.state _ s.there, s.run);
+        sights = λ queues seen y n. let s = told.sights queues seen y in kept.sights h in_names seen n queues start (s.state, legal start s.state _ s.there.1, s.run);
       })
 
 -- ---- the books by key are books

@@ -25,33 +25,33 @@ module _ {M D : Type 0} (lawful : M → List ℕ → Type 0) (explains : M → L
     (m : M) (p : PassState M D)
     (running : MergedIsRunning (lawful_state m)) (legal : RunningIsLegal (lawful_state m)) (stays : RunningStaysLawful (lawful_state m))
     (f : IsPass lawful explains p) where
-  pub now : Moments lawful explains f.legal.meaning p.view f.legal.history → p.view.meaning ≡ Some m → OneHistory lawful named state_of lawful_state allows m p.view p.books
+  pub now : Moments lawful explains f.legal.meaning p.view f.legal.history → p.view.meaning ≡ Some m → OneHistory lawful named state_of lawful_state allows m p
   now there is = let k = f.legal in let t = at_one lawful explains p f m is k.meaning k.history k.is there in
       let fits = fits_now lawful explains p f m is t in (
-        history lawful explains named formed state_of lawful_state allows within lawful_means explains_means m p.view k.history k.clock p.books fits running legal stays,
+        history lawful explains named formed state_of lawful_state allows within lawful_means explains_means m p k.history k.clock fits running legal stays,
         state_of m (cells_at p.view.opening k.history k.clock),
-        one_history lawful explains named formed state_of lawful_state allows within lawful_means explains_means m p.view k.history k.clock p.books fits running legal stays k.known t,
+        one_history lawful explains named formed state_of lawful_state allows within lawful_means explains_means m p k.history k.clock fits running legal stays k.known t,
       )
 
   book_there : (k : ℕ) → has k (callers_of p.view.books) ≡ true → has k (callers_of (writer_books p.books)) ≡ true
   book_there k = subst (λ (z : List (Book D)). has k (callers_of z) ≡ true) (sym f.books)
 
   -- with every caller number
-  pub whole : Moments lawful explains f.legal.meaning p.view f.legal.history → p.view.meaning ≡ Some m → IsSole p → WholeHistory lawful named state_of lawful_state allows m p.view p.books p.seen
+  pub whole : Moments lawful explains f.legal.meaning p.view f.legal.history → p.view.meaning ≡ Some m → IsSole p → WholeHistory lawful named state_of lawful_state allows m p
   whole there is sole = let k = f.legal in let t = at_one lawful explains p f m is k.meaning k.history k.is there in
       let fits = fits_now lawful explains p f m is t in (
-        history lawful explains named formed state_of lawful_state allows within lawful_means explains_means m p.view k.history k.clock p.books fits running legal stays,
+        history lawful explains named formed state_of lawful_state allows within lawful_means explains_means m p k.history k.clock fits running legal stays,
         state_of m (cells_at p.view.opening k.history k.clock),
-        whole_history lawful explains named formed state_of lawful_state allows within lawful_means explains_means m p.view k.history k.clock p.books fits running legal stays
-            (λ w j r e. book_of_caller named j p.books (book_there j (every lawful explains p f sole j (k.callers w j r e).1))) p.seen f.places k.known t,
+        whole_history lawful explains named formed state_of lawful_state allows within lawful_means explains_means m p k.history k.clock fits running legal stays
+            (λ w j r e. book_of_caller named j p.books (book_there j (every lawful explains p f sole j (k.callers w j r e).1))) f.places k.known t,
       )
 
-  pub last : (words : Words) → p.view.meaning ≡ Some m → Settled lawful explains p words → LastHistory lawful named state_of lawful_state allows m p.view p.books p.seen words.values
+  pub last : (words : Words) → p.view.meaning ≡ Some m → Settled lawful explains p words → LastHistory lawful named state_of lawful_state allows m p words.values
   last words is s = let t = at_one lawful explains p f m is s.meaning s.history s.is s.moments in
       let fits = fits_last lawful explains p f m is words s t in
-      let h = history lawful explains named formed state_of lawful_state allows within lawful_means explains_means m p.view s.history s.clock p.books fits running legal stays in (
+      let h = history lawful explains named formed state_of lawful_state allows within lawful_means explains_means m p s.history s.clock fits running legal stays in (
         h,
-        subst (λ (z : List ℕ). IsWholeHistory lawful named state_of lawful_state allows m p.view p.books p.seen h (state_of m z)) (sym s.values)
-            (whole_history lawful explains named formed state_of lawful_state allows within lawful_means explains_means m p.view s.history s.clock p.books fits running legal stays
-            (λ w k r e. book_of_caller named k p.books (book_there k (s.every k (s.callers w k r e).2))) p.seen f.places s.known t),
+        subst (λ (z : List ℕ). IsWholeHistory lawful named state_of lawful_state allows m p h (state_of m z)) (sym s.values)
+            (whole_history lawful explains named formed state_of lawful_state allows within lawful_means explains_means m p s.history s.clock fits running legal stays
+            (λ w k r e. book_of_caller named k p.books (book_there k (s.every k (s.callers w k r e).2))) f.places s.known t),
       )

@@ -16,6 +16,7 @@ use Rattle.cell_table.specs.Cells.{AllHold, has}
 use Rattle.cell_table.specs.History.{Outcome, unused, pending, decided, effect, cells_at}
 use Rattle.cell_table.specs.IsPass.{writer_books}
 use Rattle.cell_table.specs.Moments.{Moments}
+use Rattle.cell_table.specs.Pass.{PassState}
 use Rattle.cell_table.specs.Rule.{callers_of}
 use Rattle.cell_table.specs.declared.view.Noted.{Noted}
 use Rattle.cell_table.specs.declared.view.NotedBook.{NotedBook}
@@ -70,8 +71,14 @@ module _ {M D : Type 0} (lawful : M → List ℕ → Type 0) (explains : M → L
   abbrev by_keys : List D → List Done
   by_keys ds = by_key (named ds)
 
-  module _ (m : M) (v : View M D) (h : ℕ → Outcome D) (n : ℕ) (bs : List (NotedBook D)) (f : Fits lawful explains m v.opening h n bs)
+  module _ (m : M) (pass : PassState M D) (h : ℕ → Outcome D) (n : ℕ) (f : Fits lawful explains m pass.view.opening h n pass.books)
       (running : MergedIsRunning (lawful_state m)) (legal : RunningIsLegal (lawful_state m)) (stays : RunningStaysLawful (lawful_state m)) where
+    abbrev v : View M D
+    v = pass.view
+
+    abbrev bs : List (NotedBook D)
+    bs = pass.books
+
     abbrev cells : ℕ → List ℕ
     cells p = cells_at v.opening h p
 
@@ -141,16 +148,15 @@ module _ {M D : Type 0} (lawful : M → List ℕ → Type 0) (explains : M → L
       sees : (queues : ℕ) (seen : Seen NamedDone) → VouchesFor lawful named state_of m v queues seen → IsSeen (lawful_state m) queues (state 0) (entries_with by_name history) (seen_with by_name seen)
       sees queues seen y = let q : ℕ = seen.place in let l = y.known in record {
         state = state q;
-        there = runs_to q (state q) (runs_on.1 q (omega arith));
-        lawful = (meant q).1;
+        there = ((meant q).1, runs_to q (state q) (runs_on.1 q (omega arith)));
         run = y.run (cells q) (f.there q) (holds_there lawful explains m v h moments q y.observations y.stand);
       }
 
-      pub one_history : IsOneHistory lawful named state_of lawful_state allows m v bs history (state n)
+      pub one_history : IsOneHistory lawful named state_of lawful_state allows m pass history (state n)
       one_history = record {
         legal = is_legal;
         lawful_end = (meant n).1;
-        lawful_there = λ t. let s = (stays (state 0) (state n) told runs_on.0 (meant 0).1).1 t in (s.0, s.2, runs_to t s.0 s.1);
+        lawful_there = λ t. let s = (stays (state 0) (state n) told runs_on.0 (meant 0).1).1 t in (s.0, (s.2, runs_to t s.0 s.1));
         allowed = all_allowed;
         own = own_books;
         sights = sees;
@@ -174,8 +180,8 @@ module _ {M D : Type 0} (lawful : M → List ℕ → Type 0) (explains : M → L
             (c.0, c.1, subst (IsIn e) (in_each (λ b. by_caller b.caller history ≡ b.records) c.0 (books_of named bs) c.1 own_books) (to_by c.0.caller e history (sym c.2) i));
       }
 
-      pub whole_history : (seen : ℕ) → EachOf (λ b. EachOf (λ e. e.place ≤ seen) b.entries) bs → (low : v.known ≤ n) → Moments lawful explains m v h → IsWholeHistory lawful named state_of lawful_state allows m v bs seen history (state n)
-      whole_history seen places low moments = record {
+      pub whole_history : EachOf (λ b. EachOf (λ e. e.place ≤ pass.seen) b.entries) bs → (low : v.known ≤ n) → Moments lawful explains m v h → IsWholeHistory lawful named state_of lawful_state allows m pass history (state n)
+      whole_history places low moments = let seen : ℕ = pass.seen in record {
         one = one_history low moments;
         records = only_books;
         places = each_in (λ e. e.place ≤ seen) history (λ e i. let b = only_books.only e i in

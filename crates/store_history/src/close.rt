@@ -16,8 +16,8 @@ pub fn close_with_history<M: StateMeaning>(table: CellTable<M>, pass: Pass<M>) -
     requires sole { IsSole pass }
     requires idle { IsIdle pass.view }
     ensures settled { Settled M.lawful M.explains pass result }
-    ensures names { LastHistory M.lawful M.named M.state_of M.lawful_state M.allowed table.meaning pass.view pass.books pass.seen result.values }
-    ensures keys { KeyedHistory M.lawful M.named M.state_of M.allowed table.meaning pass.view pass.books result.values }
+    ensures names { LastHistory M.lawful M.named M.state_of M.lawful_state M.allowed table.meaning pass result.values }
+    ensures keys { KeyedHistory M.lawful M.named M.state_of M.allowed table.meaning pass result.values }
 {
     let meaning = table.meaning();
     last_history_law(&pass, meaning);

@@ -1,7 +1,4 @@
-use Rattle.store_history.proofs.Now.{now}
 use Rattle.store_history.proofs.laws.one_history_law.Goals as goal
 
 pub returns : goal.returns
-returns g c = now g.M.Meaning.lawful g.M.Meaning.explains g.M.StateMeaning.named g.M.StateMeaning.formed g.M.StateMeaning.state_of g.M.Lawful.lawful_state g.M.Lawful.allowed
-    g.M.StateMeaning.within g.met.M.StateMeaning.lawful_means g.met.M.StateMeaning.explains_means c.args._meaning.now c.args._pass.now
-    c.merged_is_running_law.ensures c.running_is_legal_law.ensures c.running_stays_lawful_law.ensures c.legal_law.ensures (c.moments_law.ensures c.legal_law.ensures.legal)
+returns g c = c.fitting_history_law.ensures c.args._pass.now c.legal_law.ensures (c.moments_law.ensures c.legal_law.ensures.legal)
