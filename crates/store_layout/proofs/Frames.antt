@@ -3,23 +3,15 @@ use Rattle.std.proofs.Common.{◌≡◌, ◌≢◌, ℕ, ◌+◌, ◌^◌, ◌<�
 use Rattle.std.specs.List.{All}
 use Rattle.std.proofs.lemmas.Bool.{cases_eq}
 use Rattle.std.proofs.lemmas.List.{length-take, length-drop, ext_get_or}
-use mathlib.Core.Logic.{dite}
 use mathlib.Core.Path.{fun_ext}
-use native.Mathlib.Decide.{ℕ_discrete}
 use Rattle.serial_terms.specs.Counts.{with_at}
-use Rattle.serial_terms.specs.Facts.{with_at_same, with_at_other}
 use Rattle.serial_terms.specs.Serial.{State, Sequence, pool_of}
+use Rattle.store_layout.specs.Facts.{changed_at, state_is}
 use Rattle.store_layout.specs.Shapes.{Shape, Object, the_map, the_queue, the_pool, the_log, the_cell, first_of, size_of}
 use Rattle.store_layout.specs.States.{value_in, items_in, queue_in, log_in, AreOf, words_of, state_in, IsFormed, DifferOnlyIn, with_object}
 use Rattle.store_layout.specs.Laws.{ChangesStayInPart}
 use Rattle.store_layout.proofs.Parts.{parts_are_apart}
 use Rattle.store_layout.proofs.Words.{words_are_cells, short}
-
--- a function that has changed at one place alone
-changed_at : {A : Type 0} (f g : ℕ → A) (n : ℕ) → ((m : ℕ) → m ≢ n → g m ≡ f m) → g ≡ with_at f n (g n)
-changed_at f g n h = fun_ext (λ m. dite (ℕ_discrete m n)
-    (λ e. ap g e ∙ sym (with_at_same f n (g n) m e))
-    (λ ne. h m ne ∙ sym (with_at_other f n (g n) m ne)))
 
 module _ (s : Shape) (o : Object) (before after : List ℕ) (d : DifferOnlyIn s o before after) where
   same_length : (p : Object) → length (words_of s p after) ≡ length (words_of s p before)
@@ -58,10 +50,6 @@ module _ (s : Shape) (o : Object) (before after : List ℕ) (d : DifferOnlyIn s 
   cell_stays : (c : ℕ) → the_cell c ≢ o → (state_in s after).cells c ≡ (state_in s before).cells c
   unfolding state_in
   cell_stays c ne = ap (λ (ws : List ℕ). get_or ws 0 0) (same_words (the_cell c) ne)
-
--- a state with these parts
-state_is : (a b : State) → a.maps ≡ b.maps → a.queues ≡ b.queues → a.pools ≡ b.pools → a.logs ≡ b.logs → a.cells ≡ b.cells → a ≡ b
-state_is a b m q p l c = λ i. record { maps = m i; queues = q i; pools = p i; logs = l i; cells = c i }
 
 module _ (s : Shape) where
   state : (o : Object) (before after : List ℕ) → DifferOnlyIn s o before after → state_in s after ≡ with_object (state_in s before) o (state_in s after)

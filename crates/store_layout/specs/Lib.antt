@@ -5,3 +5,4 @@ pub mod Opening
 pub mod Plans
 pub mod Worked
 pub mod Laws
+pub mod Facts
