@@ -1,0 +1,35 @@
+-- What is true of every attempt on a store, whatever its purpose.
+use Rattle.std.specs.Prelude.{◌≡◌, ℕ, List, [], ◌∷◌, ◌++◌}
+use Rattle.cell_table.specs.Cells.{AllHold}
+use Rattle.serial_terms.specs.Renaming.{NamedDone}
+use Rattle.store_layout.specs.Shapes.{Shape, Object}
+use Rattle.store_layout.specs.States.{state_in, IsFormed, with_object}
+use Rattle.store_meaning.specs.Meant.{Leads}
+use Rattle.store_meaning.specs.Follows.{state_with, Follows, ChangesOnly, IsCallOn, IsPlacedOn}
+
+-- where nothing waits, the state that an attempt has is that of the cells
+abbrev pub NothingWaitsBehind : Type 0
+NothingWaitsBehind = (s : Shape) (cells : List ℕ) (waiting : ℕ → List ℕ) → ((p : ℕ) → waiting p ≡ []) → state_with s cells waiting ≡ state_in s cells
+
+-- what changes in the cells of one structure and waits for it changes that structure alone
+pub record ChangesStayInObject : Type 0 where
+  pub formed : (s : Shape) (o : Object) (before after : List ℕ) (waiting waits : ℕ → List ℕ) → ChangesOnly s o before after waiting waits
+      → IsFormed s before → IsFormed s after
+  pub state : (s : Shape) (o : Object) (before after : List ℕ) (waiting waits : ℕ → List ℕ) → ChangesOnly s o before after waiting waits
+      → state_with s after waits ≡ with_object (state_with s before waiting) o (state_with s after waits)
+
+-- how an attempt goes on from its begin to its commit
+pub record AttemptsFollow (s : Shape) : Type 0 where
+  -- an attempt that has done nothing
+  pub begun : (waiting : ℕ → List ℕ) → ((p : ℕ) → waiting p ≡ []) → Follows s [] [] waiting []
+  -- more was observed
+  pub observed : (os : List (ℕ × ℕ)) (more : List (ℕ × ℕ)) (ws : List (ℕ × ℕ)) (waiting : ℕ → List ℕ) (ds : List NamedDone)
+      → ((cells : List ℕ) → AllHold cells more → AllHold cells os) → Follows s os ws waiting ds → Follows s more ws waiting ds
+  -- a call was made
+  pub called : (o : Object) (os ws : List (ℕ × ℕ)) (waiting : ℕ → List ℕ) (ds : List NamedDone) (more written : List (ℕ × ℕ)) (waits : ℕ → List ℕ) (d : NamedDone)
+      → IsCallOn s o os ws waiting more written waits d → Follows s os ws waiting ds → Follows s more written waits (ds ++ d ∷ [])
+  -- what waited for a structure was placed
+  pub placed : (o : Object) (os ws : List (ℕ × ℕ)) (waiting : ℕ → List ℕ) (ds : List NamedDone) (more written : List (ℕ × ℕ)) (waits : ℕ → List ℕ)
+      → IsPlacedOn s o os ws waiting more written waits → Follows s os ws waiting ds → Follows s more written waits ds
+  -- nothing waits any more, and the calls are those of a record that the cells explain
+  pub ends : (os ws : List (ℕ × ℕ)) (waiting : ℕ → List ℕ) (ds : List NamedDone) → ((p : ℕ) → waiting p ≡ []) → Follows s os ws waiting ds → Leads s os ws ds

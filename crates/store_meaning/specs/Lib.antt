@@ -1,0 +1,3 @@
+pub mod Meant
+pub mod Follows
+pub mod Laws
