@@ -7,6 +7,17 @@ use Rattle.serial_terms.specs.Serial.{State, IsReplied, step}
 use Rattle.store_layout.specs.Shapes.{Shape, Object, the_map, the_queue, the_pool, the_log, the_cell, IsCellOf}
 use Rattle.store_layout.specs.States.{AreOf, words_of, state_in, IsFormed, with_object}
 
+-- What an attempt has observed and will write, each a cell and a value, and the values that wait for its commit: those that
+-- wait under the number p are `waiting p`
+pub record Progress : Type 0 where
+  pub observations : List (ℕ × ℕ)
+  pub writes : List (ℕ × ℕ)
+  pub waiting : ℕ → List ℕ
+
+-- nothing waits
+abbrev pub IsResolved : Progress → Type 0
+IsResolved a = (p : ℕ) → a.waiting p ≡ []
+
 module _ (s : Shape) where
   -- the number under which values wait for a queue and for a log: first the queues in the order of their numbers, then the logs
   abbrev pub part_of_log : ℕ → ℕ
@@ -16,8 +27,7 @@ module _ (s : Shape) where
   abbrev pub waits_for_queue : (ℕ → List ℕ) → ℕ → List ℕ
   waits_for_queue waiting q = if nat_lt q (length s.queues) then waiting q else []
 
-  -- The state of the cells, with the values that wait for the commit behind those of their queues and logs.
-  -- `waiting p` are the values that wait under the number p
+  -- The state of the cells, with the values that wait for the commit behind those of their queues and logs
   unfoldable pub state_with : List ℕ → (ℕ → List ℕ) → State
   state_with cells waiting = record (state_in s cells) {
     queues = λ q. record { items = ((state_in s cells).queues q).items ++ waits_for_queue waiting q; capacity = ((state_in s cells).queues q).capacity };
@@ -26,9 +36,9 @@ module _ (s : Shape) where
 
   -- Take any well-formed cells in which the observations hold. They are well formed with the writes laid over them, and the
   -- calls run from the state of the cells to the state that the attempt has: that after the writes, with what waits
-  abbrev pub Follows : List (ℕ × ℕ) → List (ℕ × ℕ) → (ℕ → List ℕ) → List NamedDone → Type 0
-  Follows observations writes waiting dones = (cells : List ℕ) → IsFormed s cells → AllHold cells observations
-      → IsFormed s (after cells writes) × Runs (state_in s cells) (by_name dones) (state_with (after cells writes) waiting)
+  abbrev pub Follows : Progress → List NamedDone → Type 0
+  Follows a dones = (cells : List ℕ) → IsFormed s cells → AllHold cells a.observations
+      → IsFormed s (after cells a.writes) × Runs (state_in s cells) (by_name dones) (state_with (after cells a.writes) a.waiting)
 
   -- ---- what changes in one structure
 
@@ -48,6 +58,12 @@ module _ (s : Shape) where
     pub are : AreOf o (words_of s o after)
     pub waits : (p : ℕ) → (IsPartOf o p → ⊥) → later p ≡ waiting p
 
+  -- Wherever all holds that was observed by the later moment, and the cells are well formed with the earlier writes, the
+  -- structure alone is changed
+  abbrev pub Changes : Object → Progress → Progress → Type 0
+  Changes o old new = (cells : List ℕ) → AllHold cells new.observations → IsFormed s (after cells old.writes)
+      → ChangesOnly o (after cells old.writes) (after cells new.writes) old.waiting new.waiting
+
   -- ---- one call more
 
   -- The structures may reply so in the one state, and have in the other what they have after the call
@@ -55,16 +71,20 @@ module _ (s : Shape) where
     pub replied : IsReplied before (named done)
     pub leaves : step before (named done) ≡ after
 
-  -- A call about one structure: wherever all holds that was observed by its end, it changed that structure alone, as the call does
-  pub record IsCallOn (o : Object) (observed writes : List (ℕ × ℕ)) (waiting : ℕ → List ℕ) (observations written : List (ℕ × ℕ)) (waits : ℕ → List ℕ) (done : NamedDone) : Type 0 where
-    pub earlier : (cells : List ℕ) → AllHold cells observations → AllHold cells observed
-    pub changes : (cells : List ℕ) → AllHold cells observations → IsFormed s (after cells writes) → ChangesOnly o (after cells writes) (after cells written) waiting waits
-    pub steps : (cells : List ℕ) → AllHold cells observations → IsFormed s (after cells writes)
-        → IsStep done (state_with (after cells writes) waiting) (with_object (state_with (after cells writes) waiting) o (state_with (after cells written) waits))
+  -- the attempt's state, but for the structure, which is as at the later moment
+  abbrev pub with_later : Object → Progress → Progress → List ℕ → State
+  with_later o old new cells = with_object (state_with (after cells old.writes) old.waiting) o (state_with (after cells new.writes) new.waiting)
 
-  -- The values that waited for one structure stand in its cells, and none waits for it
-  pub record IsPlacedOn (o : Object) (observed writes : List (ℕ × ℕ)) (waiting : ℕ → List ℕ) (observations written : List (ℕ × ℕ)) (waits : ℕ → List ℕ) : Type 0 where
-    pub earlier : (cells : List ℕ) → AllHold cells observations → AllHold cells observed
-    pub changes : (cells : List ℕ) → AllHold cells observations → IsFormed s (after cells writes) → ChangesOnly o (after cells writes) (after cells written) waiting waits
-    pub same : (cells : List ℕ) → AllHold cells observations → IsFormed s (after cells writes)
-        → with_object (state_with (after cells writes) waiting) o (state_with (after cells written) waits) ≡ state_with (after cells writes) waiting
+  -- A call about one structure: what was observed is, and wherever all of it holds that structure alone changes, as by the call
+  pub record IsCallOn (o : Object) (old new : Progress) (done : NamedDone) : Type 0 where
+    pub earlier : (cells : List ℕ) → AllHold cells new.observations → AllHold cells old.observations
+    pub changes : Changes o old new
+    pub steps : (cells : List ℕ) → AllHold cells new.observations → IsFormed s (after cells old.writes)
+        → IsStep done (state_with (after cells old.writes) old.waiting) (with_later o old new cells)
+
+  -- Values that waited for one structure stand in its cells: the state that the attempt has is the same
+  pub record IsPlacedOn (o : Object) (old new : Progress) : Type 0 where
+    pub earlier : (cells : List ℕ) → AllHold cells new.observations → AllHold cells old.observations
+    pub changes : Changes o old new
+    pub same : (cells : List ℕ) → AllHold cells new.observations → IsFormed s (after cells old.writes)
+        → with_later o old new cells ≡ state_with (after cells old.writes) old.waiting

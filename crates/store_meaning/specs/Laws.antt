@@ -5,7 +5,7 @@ use Rattle.serial_terms.specs.Renaming.{NamedDone}
 use Rattle.store_layout.specs.Shapes.{Shape, Object}
 use Rattle.store_layout.specs.States.{state_in, IsFormed, with_object}
 use Rattle.store_meaning.specs.Meant.{Leads}
-use Rattle.store_meaning.specs.Follows.{state_with, Follows, ChangesOnly, IsCallOn, IsPlacedOn}
+use Rattle.store_meaning.specs.Follows.{Progress, IsResolved, state_with, Follows, ChangesOnly, IsCallOn, IsPlacedOn}
 
 -- where nothing waits, the state that an attempt has is that of the cells
 abbrev pub NothingWaitsBehind : Type 0
@@ -21,15 +21,13 @@ pub record ChangesStayInObject : Type 0 where
 -- how an attempt goes on from its begin to its commit
 pub record AttemptsFollow (s : Shape) : Type 0 where
   -- an attempt that has done nothing
-  pub begun : (waiting : ℕ → List ℕ) → ((p : ℕ) → waiting p ≡ []) → Follows s [] [] waiting []
+  pub begun : (a : Progress) → a.observations ≡ [] → a.writes ≡ [] → IsResolved a → Follows s a []
   -- more was observed
-  pub observed : (os : List (ℕ × ℕ)) (more : List (ℕ × ℕ)) (ws : List (ℕ × ℕ)) (waiting : ℕ → List ℕ) (ds : List NamedDone)
-      → ((cells : List ℕ) → AllHold cells more → AllHold cells os) → Follows s os ws waiting ds → Follows s more ws waiting ds
+  pub observed : (old new : Progress) (ds : List NamedDone) → ((cells : List ℕ) → AllHold cells new.observations → AllHold cells old.observations)
+      → new.writes ≡ old.writes → ((p : ℕ) → new.waiting p ≡ old.waiting p) → Follows s old ds → Follows s new ds
   -- a call was made
-  pub called : (o : Object) (os ws : List (ℕ × ℕ)) (waiting : ℕ → List ℕ) (ds : List NamedDone) (more written : List (ℕ × ℕ)) (waits : ℕ → List ℕ) (d : NamedDone)
-      → IsCallOn s o os ws waiting more written waits d → Follows s os ws waiting ds → Follows s more written waits (ds ++ d ∷ [])
+  pub called : (o : Object) (old new : Progress) (ds : List NamedDone) (d : NamedDone) → IsCallOn s o old new d → Follows s old ds → Follows s new (ds ++ d ∷ [])
   -- what waited for a structure was placed
-  pub placed : (o : Object) (os ws : List (ℕ × ℕ)) (waiting : ℕ → List ℕ) (ds : List NamedDone) (more written : List (ℕ × ℕ)) (waits : ℕ → List ℕ)
-      → IsPlacedOn s o os ws waiting more written waits → Follows s os ws waiting ds → Follows s more written waits ds
+  pub placed : (o : Object) (old new : Progress) (ds : List NamedDone) → IsPlacedOn s o old new → Follows s old ds → Follows s new ds
   -- nothing waits any more, and the calls are those of a record that the cells explain
-  pub ends : (os ws : List (ℕ × ℕ)) (waiting : ℕ → List ℕ) (ds : List NamedDone) → ((p : ℕ) → waiting p ≡ []) → Follows s os ws waiting ds → Leads s os ws ds
+  pub ends : (a : Progress) (ds : List NamedDone) → IsResolved a → Follows s a ds → Leads s a.observations a.writes ds
