@@ -1,0 +1,6 @@
+pub mod Touching
+pub mod Maps
+pub mod Pools
+pub mod LogWords
+pub mod Logs
+pub mod PlainCells
