@@ -4,14 +4,14 @@ use Rattle.std.specs.List.{All}
 use Rattle.std.proofs.lemmas.Bool.{cases_eq}
 use Rattle.std.proofs.lemmas.List.{length-take, length-drop, ext_get_or}
 use mathlib.Core.Path.{fun_ext}
-use Rattle.serial_terms.specs.Counts.{with_at}
-use Rattle.serial_terms.specs.Serial.{State, Sequence, pool_of}
+use Rattle.serial_terms.specs.Serial.{Sequence, pool_of}
 use Rattle.store_layout.specs.Facts.{changed_at, state_is}
 use Rattle.store_layout.specs.Shapes.{Shape, Object, the_map, the_queue, the_pool, the_log, the_cell, first_of, size_of}
 use Rattle.store_layout.specs.States.{value_in, items_in, queue_in, log_in, AreOf, words_of, state_in, IsFormed, DifferOnlyIn, with_object}
 use Rattle.store_layout.specs.Laws.{ChangesStayInPart}
 use Rattle.store_layout.proofs.Parts.{parts_are_apart}
-use Rattle.store_layout.proofs.Words.{words_are_cells, short}
+use Rattle.store_layout.specs.Within.{short}
+use Rattle.store_layout.proofs.Words.{words_are_cells}
 
 module _ (s : Shape) (o : Object) (before after : List ℕ) (d : DifferOnlyIn s o before after) where
   same_length : (p : Object) → length (words_of s p after) ≡ length (words_of s p before)

@@ -17,7 +17,8 @@ use Rattle.store_layout.specs.States.{value_in, items_in, round_from, queue_in, 
 use Rattle.store_layout.specs.Opening.{opening_slots, opening_words}
 use Rattle.store_layout.specs.Laws.{OpeningStands}
 use Rattle.store_layout.proofs.Parts.{in_map, in_queue, in_log, in_cell}
-use Rattle.store_layout.proofs.Words.{words_are_cells, short}
+use Rattle.store_layout.specs.Within.{short}
+use Rattle.store_layout.proofs.Words.{words_are_cells}
 
 -- ---- one pool
 

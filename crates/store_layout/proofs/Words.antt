@@ -1,11 +1,10 @@
--- The words of structures, and what they stand for.
-use Rattle.std.proofs.Common.{◌≡◌, ℕ, zero, suc, ◌+◌, ◌-◌, ◌/◌, ◌%◌, ◌^◌, ◌<◌, ◌≤◌, List, [], ◌∷◌, length, take, drop, get_or, cond, ltb, ◌⊎◌, ◌∙◌, refl, inl, inr, arith}
+-- The words of structures.
+use Rattle.std.proofs.Common.{◌≡◌, ℕ, ◌+◌, ◌-◌, ◌<◌, ◌≤◌, List, length, drop, get_or, ◌⊎◌, ◌∙◌, inl, inr, arith}
 use Rattle.std.proofs.lemmas.Bool.{cases_lt}
-use Rattle.std.proofs.lemmas.Bool.Decides.{nat_tests}
-use Rattle.std.proofs.lemmas.List.{get_or-take, get_or-drop, length-take, length-take-le, length-drop, length-map}
-use Rattle.store_layout.specs.Shapes.{Shape, Object, the_queue, the_log, cells_of, first_of, size_of}
-use Rattle.store_layout.specs.States.{round_from, queue_in, log_in, IsQueue, IsLog, words_of, state_in}
-use Rattle.store_layout.specs.Laws.{WordsAreCells, FormedIsWithinCapacity}
+use Rattle.std.proofs.lemmas.List.{get_or-take, get_or-drop, length-take-le, length-drop}
+use Rattle.store_layout.specs.Shapes.{Shape, Object, cells_of, first_of, size_of}
+use Rattle.store_layout.specs.States.{words_of}
+use Rattle.store_layout.specs.Laws.{WordsAreCells}
 use Rattle.store_layout.proofs.Parts.{parts_are_apart}
 
 module _ (s : Shape) where
@@ -19,32 +18,5 @@ module _ (s : Shape) where
   words : (o : Object) (cells : List ℕ) (i : ℕ) → i < size_of s o → get_or (words_of s o cells) i 0 ≡ get_or cells (first_of s o + i) 0
   words o cells i h = get_or-take (size_of s o) (drop (first_of s o) cells) i 0 h ∙ get_or-drop (first_of s o) cells i 0
 
-  pub short : (o : Object) (cells : List ℕ) → length (words_of s o cells) ≤ size_of s o
-  short o cells = omega (arith, length-take (size_of s o) (drop (first_of s o) cells))
-
 pub words_are_cells : WordsAreCells
 words_are_cells = record { sized = sized; words = words }
-
--- ---- within the capacities
-
-length-round : (ws : List ℕ) (at n : ℕ) → length (round_from ws at n) ≡ n
-length-round ws at zero = refl
-length-round ws at (suc n) = omega (arith, length-round ws (at + 1) n)
-
-queue_fits : (ws : List ℕ) (capacity : ℕ) → length ws ≤ capacity + 1 → IsQueue ws → length (queue_in ws) ≤ capacity
-queue_fits [] capacity h w = omega arith
-queue_fits (end ∷ ws) capacity h w = omega (arith, length-round ws (end / 2 ^ 32) (end % 2 ^ 32), w.1)
-
-log_fits : (ws : List ℕ) (capacity : ℕ) → length ws ≤ capacity + 1 → IsLog ws → length (log_in ws) ≤ capacity
-log_fits [] capacity h w = omega arith
-log_fits (n ∷ ws) capacity h w = omega (arith, length-map (take n ws) (λ (w : ℕ). w - 1), length-take n ws)
-
-ended : (n : ℕ) (xs : List ℕ) (i : ℕ) → n ≤ cond (ltb i (length xs)) (get_or xs i 0 + 1) 0 → n ≤ get_or xs i 0 + 1
-ended n xs i h = grind (arith, nat_tests)
-
-pub formed_is_within_capacity : FormedIsWithinCapacity
-unfolding state_in
-formed_is_within_capacity s cells f = record {
-  queues = λ q. queue_fits (words_of s (the_queue q) cells) (get_or s.queues q 0) (ended _ s.queues q (short s (the_queue q) cells)) (f.parts (the_queue q));
-  logs = λ l. log_fits (words_of s (the_log l) cells) (get_or s.logs l 0) (ended _ s.logs l (short s (the_log l) cells)) (f.parts (the_log l));
-}

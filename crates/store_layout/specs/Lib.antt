@@ -6,3 +6,4 @@ pub mod Plans
 pub mod Worked
 pub mod Laws
 pub mod Facts
+pub mod Within

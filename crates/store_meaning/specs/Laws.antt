@@ -1,10 +1,10 @@
 -- What is true of every attempt on a store, whatever its purpose.
 use Rattle.std.specs.Prelude.{◌≡◌, ℕ, List, [], ◌∷◌, ◌++◌}
 use Rattle.cell_table.specs.Cells.{AllHold}
-use Rattle.serial_terms.specs.Renaming.{NamedDone}
+use Rattle.serial_terms.specs.Renaming.{NamedDone, by_name}
+use Rattle.store_history.specs.Meanings.{Explains}
 use Rattle.store_layout.specs.Shapes.{Shape, Object}
 use Rattle.store_layout.specs.States.{state_in, IsFormed, with_object}
-use Rattle.store_meaning.specs.Meant.{Leads}
 use Rattle.store_meaning.specs.Follows.{Progress, IsResolved, state_with, Follows, ChangesOnly, IsCallOn, IsPlacedOn}
 
 -- where nothing waits, the state that an attempt has is that of the cells
@@ -30,4 +30,4 @@ pub record AttemptsFollow (s : Shape) : Type 0 where
   -- what waited for a structure was placed
   pub placed : (o : Object) (old new : Progress) (ds : List NamedDone) → IsPlacedOn s o old new → Follows s old ds → Follows s new ds
   -- nothing waits any more, and the calls are those of a record that the cells explain
-  pub ends : (a : Progress) (ds : List NamedDone) → IsResolved a → Follows s a ds → Leads s a.observations a.writes ds
+  pub ends : (a : Progress) (ds : List NamedDone) → IsResolved a → Follows s a ds → Explains (IsFormed s) (state_in s) a.observations a.writes (by_name ds)

@@ -1,4 +1,4 @@
-use Rattle.store_layout.proofs.Words.{formed_is_within_capacity}
+use Rattle.store_layout.specs.Within.{formed_is_within_capacity}
 use Rattle.store_layout.proofs.laws.formed_is_within_capacity_law.Goals as goal
 
 pub returns : goal.returns
