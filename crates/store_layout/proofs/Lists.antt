@@ -4,15 +4,12 @@ use Rattle.std.specs.List.{All, sum, sum_by}
 use Rattle.std.proofs.lemmas.List.Sums.{sum_by-cons, sum-map}
 use Rattle.serial_terms.specs.declared.store.PoolLayout.{PoolLayout}
 use Rattle.serial_terms.specs.Stores.{slots_of}
-use Rattle.std.proofs.lemmas.List.Elements.{All-head, All-tail, All-map, All-weaker}
-use Rattle.store_layout.specs.Shapes.{with_end, IsPool}
-
-pub slots-map : (ps : List PoolLayout) → slots_of ps ≡ map (λ p. p.slots) ps
-slots-map [] = refl
-slots-map (p ∷ ps) = ap (λ (ns : List ℕ). p.slots ∷ ns) (slots-map ps)
+use Rattle.std.proofs.lemmas.List.Elements.{All-head, All-tail}
+use Rattle.store_layout.specs.Facts.{slots_map}
+use Rattle.store_layout.specs.Shapes.{with_end}
 
 pub slots-sum : (ps : List PoolLayout) → sum (slots_of ps) ≡ sum_by (λ p. p.slots) ps
-slots-sum ps = ap sum (slots-map ps) ∙ sum-map (λ (p : PoolLayout). p.slots) ps
+slots-sum ps = ap sum (slots_map ps) ∙ sum-map (λ (p : PoolLayout). p.slots) ps
 
 -- each queue and each log has one cell more than values
 pub ends-sum : (ns : List ℕ) → sum_by with_end ns ≡ sum ns + length ns
@@ -23,6 +20,3 @@ ends-sum (n ∷ ns) = omega (arith, sum_by-cons with_end n ns, sum_by-cons (λ (
 pub length-sum : (f : ℕ → ℕ) (ns : List ℕ) → All (λ n. 0 < f n) ns → length ns ≤ sum_by f ns
 length-sum f [] h = omega arith
 length-sum f (n ∷ ns) h = omega (arith, sum_by-cons f n ns, All-head (λ (n : ℕ). 0 < f n) n ns h, length-sum f ns (All-tail (λ (n : ℕ). 0 < f n) n ns h))
-
-pub slots-count : (ps : List PoolLayout) → All IsPool ps → All (λ n. 0 < n) (slots_of ps)
-slots-count ps h = subst (λ (ns : List ℕ). All (λ n. 0 < n) ns) (sym (slots-map ps)) (All-map (λ (n : ℕ). 0 < n) (λ (p : PoolLayout). p.slots) ps (All-weaker IsPool (λ p. 0 < p.slots) (λ p is. is.0) ps h))

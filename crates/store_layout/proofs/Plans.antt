@@ -8,7 +8,8 @@ use Rattle.serial_terms.specs.Stores.{slots_of}
 use Rattle.store_layout.specs.declared.place.Place.{Place}
 use Rattle.store_layout.specs.Shapes.{Object, the_map, the_queue, the_pool, the_log, the_cell, with_end, shape_of, queues_from, pools_from, logs_from, plain_from, cells_of, IsCellOf, IsLayout, most_cells}
 use Rattle.store_layout.specs.Plans.{capacities_in, StandFrom, shape_by, IsPlan, IsAtNone}
-use Rattle.store_layout.proofs.Lists.{ends-sum, length-sum, slots-count}
+use Rattle.store_layout.proofs.Lists.{ends-sum, length-sum}
+use Rattle.store_layout.specs.Facts.{slots_count}
 use Rattle.store_layout.proofs.Sums.{IsIn}
 use Rattle.store_layout.proofs.Parts.{in_map, in_queue, in_pool, in_log, in_cell, parts_are_apart}
 
@@ -55,7 +56,7 @@ planned layout maps queues pools logs first is small m q p l e =
     let pools_sum = ap sum (p.sized) in
     let logs_sum = ap (sum_by with_end) (l.sized) in
     let maps_many = length-sum (λ c. c) layout.maps is.maps in
-    let pools_many = length-sum (λ c. c) (slots_of layout.pools) (slots-count layout.pools is.pools) in
+    let pools_many = length-sum (λ c. c) (slots_of layout.pools) (slots_count layout.pools is.pools) in
     record {
       maps_stand = moved (λ c. c) 0 0 layout.maps (capacities_in maps) maps refl (sym m.sized) (stand_whole 0 layout.maps maps m);
       queues_stand = moved with_end _ _ layout.queues (capacities_in queues) queues (omega arith) (sym q.sized) q;

@@ -65,6 +65,13 @@ impl CellPlan {
         self.plain.first + self.plain.capacity
     }
 
+    /// How many queues there are.
+    pub fn queues(&self) -> u32
+        ensures { result ≡ length self.now.queues }
+    {
+        self.queues.len() as u32
+    }
+
     /// The place of a map.
     pub fn map(&self, map: u32) -> Place
         requires { map < length self.now.maps }

@@ -1,0 +1,5 @@
+pub mod Opened
+pub mod Noting
+pub mod Telling
+pub mod PoolCalls
+pub mod CellCalls

@@ -1,0 +1,19 @@
+//! A store of maps, queues, pools, logs and plain cells over one table, whose calls become one transaction.
+//!
+//! [`Store::open`] lays the structures out and hands out the pass of all callers. [`StoreTx::begin`] begins an attempt; its
+//! calls on several structures are answered at one version, and nothing of them is seen by others before its commit.
+#![tactic(auto)]
+
+mod cells;
+mod notes;
+mod parts;
+mod pass;
+mod pools;
+mod store;
+mod tx;
+
+pub use pass::StorePass;
+pub use store::Store;
+pub use store_layout::LayoutEnd as OpenEnd;
+pub use store_meaning::{Anything, Purpose};
+pub use tx::StoreTx;
