@@ -102,6 +102,14 @@ same_contents bytes one two h k =
 
 -- two right answers are the same
 pub same_answer : (bytes : List ℕ) (one two : Answer) → IsAnswer bytes one → IsAnswer bytes two → one ≡ two
+same_answer bytes (refused (fault.Block p)) two h k = absurd h
+same_answer bytes (refused (fault.MixedLink p)) two h k = absurd h
+same_answer bytes (refused (fault.BlockVersion p)) two h k = absurd h
+same_answer bytes (refused (fault.BlockLink n p)) two h k = absurd h
+same_answer bytes one (refused (fault.Block q)) h k = absurd k
+same_answer bytes one (refused (fault.MixedLink q)) h k = absurd k
+same_answer bytes one (refused (fault.BlockVersion q)) h k = absurd k
+same_answer bytes one (refused (fault.BlockLink n q)) h k = absurd k
 same_answer bytes (captured a) (captured b) h k = ap captured (same_contents bytes a b h k)
 same_answer bytes (captured a) (refused (fault.Header q)) h k = absurd (has_no_header bytes q k h.order h.before.header.long h.before.header.magic)
 same_answer bytes (captured a) (refused fault.Version) h k = absurd (has_no_version bytes k h.order h.before.header)

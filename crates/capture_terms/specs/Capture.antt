@@ -187,6 +187,11 @@ HasFault bytes (fault.Header at) = HasShortHeader bytes at ⊎ HasOtherMagic byt
 HasFault bytes fault.Version = HasOtherVersion bytes
 HasFault bytes (fault.Link number) = HasOtherLink bytes number
 HasFault bytes (fault.Record at) = HasLongRecord bytes at
+-- those of pcapng files, which have other rules
+HasFault bytes (fault.Block at) = ⊥
+HasFault bytes (fault.MixedLink at) = ⊥
+HasFault bytes (fault.BlockVersion at) = ⊥
+HasFault bytes (fault.BlockLink number at) = ⊥
 
 -- what a reader answers about a file
 pub data Answer : Type 0 where

@@ -91,4 +91,13 @@ pub enum CaptureFault {
     Link { number: u16 },
     /// The record says that more than 262,144 bytes were captured.
     Record { at: u64 },
+    /// In a pcapng file: what stands at this place is no block that may stand there.
+    Block { at: u64 },
+    /// In a pcapng file: the packet of the block at this place has another link type than the packets
+    /// before it.
+    MixedLink { at: u64 },
+    /// In a pcapng file: the major version at this place isn't 1.
+    BlockVersion { at: u64 },
+    /// In a pcapng file: a packet's link type, which stands at this place, is none of those accepted.
+    BlockLink { number: u16, at: u64 },
 }
