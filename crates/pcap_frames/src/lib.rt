@@ -8,3 +8,4 @@ mod tests;
 
 pub use capture::{CaptureEnd, frames};
 pub use capture_terms::{Capture, Frame};
+pub use record_reader::{u16_at, u32_at};

@@ -37,8 +37,9 @@ pub enum Next {
     Tail(u64),
 }
 
+/// The number in the two bytes at a place.
 #[tactic(auto, unfolding(capture_terms::specs::Numbers::number16))]
-fn u16_at(order: Endianness, bytes: &[u8], at: usize) -> u16
+pub fn u16_at(order: Endianness, bytes: &[u8], at: usize) -> u16
     requires { at + 2 ≤ length bytes.now }
     ensures { result ≡ number16 order bytes.now at }
 {
@@ -48,8 +49,9 @@ fn u16_at(order: Endianness, bytes: &[u8], at: usize) -> u16
     }
 }
 
+/// The number in the four bytes at a place.
 #[tactic(auto, unfolding(capture_terms::specs::Numbers::number32))]
-fn u32_at(order: Endianness, bytes: &[u8], at: usize) -> u32
+pub fn u32_at(order: Endianness, bytes: &[u8], at: usize) -> u32
     requires { at + 4 ≤ length bytes.now }
     ensures { result ≡ number32 order bytes.now at }
 {

@@ -1,0 +1,4 @@
+pub mod Answer
+pub mod Blocks
+pub mod Options
+pub mod Times
