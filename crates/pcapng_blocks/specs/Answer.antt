@@ -2,7 +2,6 @@
 -- packets of a capture have one link type.
 use Rattle.std.specs.Prelude.{◌≡◌, ℕ, ◌+◌, ◌≤◌, Bool, true, false, not, All, ◌==◌, nat_le, List, [], ◌∷◌, ◌++◌, length, Option, Some, None, is_none, Result, Ok, Err, if◌then◌else◌}
 use Rattle.capture_terms.specs.Capture.{Answer, captured, refused, too_many_frames, Contents, contents_of, link_numbered, IsAcceptedLink, IsWithin}
-use Rattle.capture_terms.specs.Numbers.{number32}
 use Rattle.capture_terms.specs.declared.capture.Capture.{Capture}
 use Rattle.capture_terms.specs.declared.capture.CaptureFault.TheVariants as fault
 use Rattle.capture_terms.specs.declared.capture.Endianness.{Endianness}
@@ -21,8 +20,8 @@ use Rattle.pcapng_blocks.specs.declared.terms.Next.TheVariants as next
 use Rattle.pcapng_blocks.specs.declared.terms.Packet.{Packet}
 
 -- the file begins as pcapng files do, with the type of a section header
-abbrev pub IsPcapng : List ℕ → Type 0
-IsPcapng bytes = number32 Little bytes 0 ≡ 0x0a0d0d0a
+abbrev pub is_pcapng : List ℕ → Bool
+is_pcapng bytes = is_section bytes 0
 
 -- The blocks one behind the other.
 

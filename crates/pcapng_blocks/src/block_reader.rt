@@ -49,7 +49,8 @@ fn order_at(order: Endianness, bytes: &[u8], at: usize) -> Option<Endianness>
 
 #[tactic(auto, unfolding(crate::specs::Blocks::least_size))]
 fn least_size(kind: u32) -> u32
-    ensures { result ≡ terms.least_size kind }
+    ensures size { result ≡ terms.least_size kind }
+    ensures least { 12 ≤ result }
 {
     match kind {
         SECTION => 28,
@@ -88,7 +89,7 @@ fn interface_at(order: Endianness, bytes: &[u8], at: usize, size: u32) -> Interf
         link: u16_at(order, bytes, at + 8),
         link_at: at as u64 + 8,
         snapshot: u32_at(order, bytes, at + 12),
-        resolution: resolution(order, bytes, at + 16, end),
+        resolution: resolution(order, bytes, end, at + 16),
     }
 }
 

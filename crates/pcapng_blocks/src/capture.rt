@@ -1,8 +1,10 @@
-ghost use Rattle.std.specs.Prelude.{◌≡◌, ◌≤◌, true, length, IfOk, IfSome, IsTrue, ◌↔◌, All};
-ghost use Rattle.capture_terms.specs.Capture.{Answer, IsAcceptedLink, IsWithin};
-ghost use Rattle.pcapng_blocks.specs.Answer.{IsPcapng, IsBlocksAnswer, answer_of};
-ghost use Rattle.pcapng_blocks.specs.Times.{IsTimed};
+ghost use Rattle.std.specs.Prelude.{◌≡◌, ◌≤◌, length, OnOk, IfOk, IfErr, IfSome, IsTrue, All};
+ghost use Rattle.capture_terms.specs.Capture.{Answer, IsAcceptedLink, IsWithin, contents_of};
+ghost use Rattle.pcapng_blocks.specs.Answer as answer;
+ghost use Rattle.pcapng_blocks.specs.Answer.{IsBlocksAnswer, IsSound, answer_of, refusal_of, contents_behind};
+ghost use Rattle.pcapng_blocks.specs.Reader.{before_of, Refuses, Takes};
 ghost use Rattle.pcapng_blocks.specs.declared.capture.BlocksEnd.TheVariants.{Memory};
+ghost use Rattle.pcapng_blocks.specs.declared.terms.Body.TheVariants as body;
 
 use crate::block_reader::next_at;
 use crate::laws::{one_answer_law, sound_law};
@@ -58,7 +60,12 @@ struct Reading {
 }
 
 impl Reading {
-    fn take_packet(&mut self, at: usize, packet: Packet) -> Result<(), BlocksEnd> {
+    // Takes a packet whose block stands at this place, or says why it is refused.
+    #[tactic(auto, unfolding(crate::specs::Answer::packet_refusal))]
+    fn take_packet(&mut self, at: usize, packet: Packet) -> Result<(), BlocksEnd>
+        ensures taken { OnOk result (Takes self.old at (body.Packet packet) self.new) }
+        ensures refused { IfErr result (λ end. IfSome (refusal_of end) (Refuses self.old at (body.Packet packet))) }
+    {
         if Link::numbered(packet.link).is_none() {
             return Err(BlocksEnd::Link {
                 number: packet.link,
@@ -76,7 +83,11 @@ impl Reading {
         Ok(())
     }
 
-    fn take(&mut self, at: usize, body: Body) -> Result<(), BlocksEnd> {
+    // Takes what a block at this place says, or says why it is refused.
+    fn take(&mut self, at: usize, body: Body) -> Result<(), BlocksEnd>
+        ensures taken { OnOk result (Takes self.old at body self.new) }
+        ensures refused { IfErr result (λ end. IfSome (refusal_of end) (Refuses self.old at body)) }
+    {
         match body {
             Body::Section(order) => {
                 self.order = order;
@@ -89,7 +100,10 @@ impl Reading {
         Ok(())
     }
 
-    fn into_capture(self, torn: u64) -> Capture {
+    // The capture of these packets, behind which so many bytes are left.
+    fn into_capture(self, torn: u64) -> Capture
+        ensures { contents_of result ≡ contents_behind (before_of self) torn }
+    {
         Capture {
             nanos: true,
             link: self.link.unwrap_or(ETHERNET),
@@ -129,21 +143,24 @@ fn walk(alloc: Global, bytes: &[u8]) -> Result<Capture, BlocksEnd>
 
 /// Whether the bytes begin as a pcapng file does, with the type of a section header.
 pub fn is_pcapng(bytes: &[u8]) -> bool
-    ensures { IsTrue result ↔ IsPcapng bytes.now }
+    ensures { result ≡ answer.is_pcapng bytes.now }
 {
-    bytes.len() >= 4 && u32_at(Endianness::Little, bytes, 0) == SECTION
+    if bytes.len() < 4 {
+        return false;
+    }
+    u32_at(Endianness::Little, bytes, 0) == SECTION
 }
 
 /// The capture that a file in the pcapng format holds.
 pub fn blocks(alloc: Global, bytes: &[u8]) -> Result<Capture, BlocksEnd>
-    requires { IsPcapng bytes.now }
+    requires { IsTrue (answer.is_pcapng bytes.now) }
     // The capture is the one that the file is; a refusal has its reason.
     ensures found { IfSome (answer_of result) (IsBlocksAnswer bytes.now) }
 
     // A file that is a capture gives it, and one to be refused is refused, unless memory runs out.
     ensures only { (answer : Answer) → IsBlocksAnswer bytes.now answer → IfSome (answer_of result) (λ given. given ≡ answer) }
-    ensures nanos { IfOk result (λ capture. capture.nanos ≡ true) }
-    ensures times { IfOk result (λ capture. All IsTimed capture.frames.items) }
+    // Its times are in nanoseconds.
+    ensures sound { IfOk result (λ capture. IsSound bytes.now (contents_of capture)) }
     ensures within { IfOk result (λ capture. All (IsWithin bytes.now) capture.frames.items) }
     ensures few { IfOk result (λ capture. length capture.frames.items ≤ 262144) }
     ensures link { IfOk result (λ capture. IsAcceptedLink capture.link) }

@@ -2,7 +2,8 @@ ghost use Rattle.std.specs.Prelude.{◌≡◌, ℕ, List};
 ghost use Rattle.capture_terms.specs.Capture.{Answer, Contents, captured};
 ghost use Rattle.pcapng_blocks.specs.Answer.{IsBlocksAnswer, IsSound};
 
-/// No two answers are right about one file.
+/// No two answers are right about one file. So a file is at most one capture, it is not both a
+/// capture and refused, and there is only one reason for which it is refused.
 pub fn one_answer_law()
     ensures { (bytes : List ℕ) (one two : Answer) → IsBlocksAnswer bytes one → IsBlocksAnswer bytes two → one ≡ two }
 {}

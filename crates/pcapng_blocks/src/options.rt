@@ -1,5 +1,5 @@
-ghost use Rattle.std.specs.Prelude.{◌≡◌, ◌≤◌, length};
-ghost use Rattle.pcapng_blocks.specs.Options.{resolution_in};
+ghost use Rattle.std.specs.Prelude.{◌≡◌, ◌+◌, ◌≤◌, true, false, length, MatchOption};
+ghost use Rattle.pcapng_blocks.specs.Options as terms;
 
 use capture_terms::Endianness;
 use pcap_frames::u16_at;
@@ -8,21 +8,35 @@ const RESOLUTION: u16 = 9;
 
 const MICROSECONDS: u8 = 6;
 
+// Where the option at a place ends, if one stands there.
+fn option_end(order: Endianness, bytes: &[u8], end: usize, at: usize) -> Option<usize>
+    requires within { end ≤ length bytes.now }
+    ensures { MatchOption result (terms.is_option order bytes.now end at ≡ false) (λ next. (next ≡ terms.option_end order bytes.now at) × (terms.is_option order bytes.now end at ≡ true)) }
+{
+    if end < 4 || at > end - 4 || u16_at(order, bytes, at) == 0 {
+        return None;
+    }
+    let next = at + 4 + (u16_at(order, bytes, at + 2) as usize + 3) / 4 * 4;
+    if next <= end { Some(next) } else { None }
+}
+
+// Whether the option at a place is a resolution.
+fn is_resolution(order: Endianness, bytes: &[u8], at: usize) -> bool
+    requires { at + 4 ≤ length bytes.now }
+    ensures { result ≡ terms.is_resolution order bytes.now at }
+{
+    u16_at(order, bytes, at) == RESOLUTION && u16_at(order, bytes, at + 2) == 1
+}
+
 /// The resolution of an interface's times, by the options from a place on: what the first option of this
 /// code and of one byte says, or microseconds where there is none.
-pub fn resolution(order: Endianness, bytes: &[u8], from: usize, end: usize) -> u8
+pub fn resolution(order: Endianness, bytes: &[u8], end: usize, from: usize) -> u8
     requires { end ≤ length bytes.now }
-    ensures { result ≡ resolution_in order bytes.now end from }
+    ensures { result ≡ terms.resolution_in order bytes.now end from }
 {
     let mut at = from;
-    while at < end && end - at >= 4 {
-        let code = u16_at(order, bytes, at);
-        let length = u16_at(order, bytes, at + 2);
-        let next = at + 4 + (length as usize + 3) / 4 * 4;
-        if code == 0 || next > end {
-            break;
-        }
-        if code == RESOLUTION && length == 1 {
+    while let Some(next) = option_end(order, bytes, end, at) {
+        if is_resolution(order, bytes, at) {
             return bytes[at + 4];
         }
         at = next;

@@ -59,7 +59,7 @@ const SECOND: &[u8] = b"\x06\0\0\0\x20\0\0\0\x01\0\0\0\0\0\0\0\0\0\0\0\0\0\0\0\0
 const NO_ROOM: &[u8] =
     b"\x06\0\0\0\x20\0\0\0\0\0\0\0\0\0\0\0\0\0\0\0\x01\0\0\0\x01\0\0\0\x20\0\0\0";
 
-/// Simple packets of no bytes, and of 100 bytes of which 8 stand there, or 9.
+/// Simple packets of no bytes, and of 100 bytes of which 8 stand there.
 const NOTHING: &[u8] = b"\x03\0\0\0\x10\0\0\0\0\0\0\0\x10\0\0\0";
 
 const EIGHT: &[u8] = b"\x03\0\0\0\x18\0\0\0\x64\0\0\0abcdefgh\x18\0\0\0";
@@ -247,5 +247,105 @@ fn a_torn_or_wrong_end_is_no_frame(rt: HostRuntime) -> Result<(), Fail> {
     assert_eq!(rt; shape(alloc, &whole[..123]), Ok((1, 0, 75)));
     let wrong = joined(alloc, &[&whole[..127], b"\x01"])?;
     assert_eq!(rt; shape(alloc, &wrong), Err(BlocksEnd::Block { at: 48 }));
+    Ok(())
+}
+
+/// The first part of an enhanced packet of no bytes, in front of its time, and the part behind that.
+const TIMED: &[u8] = b"\x06\0\0\0\x20\0\0\0\0\0\0\0";
+
+const TIMED_END: &[u8] = b"\0\0\0\0\0\0\0\0\x20\0\0\0";
+
+/// Interfaces with a resolution: of nanoseconds, seconds, 2^10, 2^40 and 10^30 units in a second.
+const NANOS: &[u8] = b"\x01\0\0\0\x1c\0\0\0\x01\0\0\0\0\0\0\0\x09\0\x01\0\x09\0\0\0\x1c\0\0\0";
+
+const SECONDS: &[u8] = b"\x01\0\0\0\x1c\0\0\0\x01\0\0\0\0\0\0\0\x09\0\x01\0\0\0\0\0\x1c\0\0\0";
+
+const BINARY: &[u8] = b"\x01\0\0\0\x1c\0\0\0\x01\0\0\0\0\0\0\0\x09\0\x01\0\x8a\0\0\0\x1c\0\0\0";
+
+const FINE_BINARY: &[u8] =
+    b"\x01\0\0\0\x1c\0\0\0\x01\0\0\0\0\0\0\0\x09\0\x01\0\xa8\0\0\0\x1c\0\0\0";
+
+const FINEST: &[u8] = b"\x01\0\0\0\x1c\0\0\0\x01\0\0\0\0\0\0\0\x09\0\x01\0\x1e\0\0\0\x1c\0\0\0";
+
+/// The same as the third, behind a name of five bytes.
+const NAMED: &[u8] =
+    b"\x01\0\0\0\x28\0\0\0\x01\0\0\0\0\0\0\0\x02\0\x05\0eth01\0\0\0\x09\0\x01\0\x8a\0\0\0\x28\0\0\0";
+
+/// Options that tell no resolution: one behind the end of the options, one of two bytes, and one that
+/// doesn't fit.
+const ENDED: &[u8] =
+    b"\x01\0\0\0\x20\0\0\0\x01\0\0\0\0\0\0\0\0\0\0\0\x09\0\x01\0\x8a\0\0\0\x20\0\0\0";
+
+const TWO_BYTES: &[u8] = b"\x01\0\0\0\x1c\0\0\0\x01\0\0\0\0\0\0\0\x09\0\x02\0\x8a\0\0\0\x1c\0\0\0";
+
+const CUT: &[u8] = b"\x01\0\0\0\x18\0\0\0\x01\0\0\0\0\0\0\0\x09\0\x01\0\x18\0\0\0";
+
+#[test]
+fn tells_times(rt: HostRuntime) -> Result<(), Fail> {
+    let alloc = rt.alloc();
+    // 1,500,000 and 1,500,000,000 units, 1,536 and 1,536 * 2^30 units, 2^33 + 1 units, the most of all
+    let micros = b"\0\0\0\0\x60\xe3\x16\0";
+    let nanos = b"\0\0\0\0\0\x2f\x68\x59";
+    let binary = b"\0\0\0\0\0\x06\0\0";
+    let fine = b"\x80\x01\0\0\0\0\0\0";
+    let late = b"\x02\0\0\0\x01\0\0\0";
+    let last = b"\xff\xff\xff\xff\xff\xff\xff\xff";
+    for (interface, time, wanted) in [
+        (ETHERNET, micros, (1, 500_000_000)),
+        (NANOS, nanos, (1, 500_000_000)),
+        (BINARY, binary, (1, 500_000_000)),
+        (NAMED, binary, (1, 500_000_000)),
+        (FINE_BINARY, fine, (1, 500_000_000)),
+        // behind 32 bits the seconds are cut
+        (SECONDS, late, (1, 0)),
+        // a time below a nanosecond
+        (FINEST, last, (0, 0)),
+        // microseconds, for want of a resolution
+        (ENDED, binary, (0, 1_536_000)),
+        (TWO_BYTES, binary, (0, 1_536_000)),
+        (CUT, binary, (0, 1_536_000)),
+    ] {
+        let frame = only_frame(alloc, &[SECTION, interface, TIMED, time, TIMED_END])?;
+        assert_eq!(rt; (frame.seconds, frame.fraction), wanted);
+    }
+    Ok(())
+}
+
+#[test]
+fn counts_frames(rt: HostRuntime) -> Result<(), Fail> {
+    let alloc = rt.alloc();
+    let mut bytes = joined(alloc, &[SECTION, ETHERNET])?;
+    for _ in 0..262144 {
+        bytes.extend_from_slice(NOTHING)?;
+    }
+    assert_eq!(rt; shape(alloc, &bytes), Ok((1, 262144, 0)));
+    assert_eq!(rt;
+        shape(alloc, &joined(alloc, &[&bytes, PASSED])?),
+        Ok((1, 262144, 0))
+    );
+    assert_eq!(rt;
+        shape(alloc, &joined(alloc, &[&bytes, NOTHING])?),
+        Err(BlocksEnd::TooMany)
+    );
+    let mixed = joined(alloc, &[&bytes, RAW_IP, SECOND])?;
+    assert_eq!(rt; shape(alloc, &mixed), Err(BlocksEnd::Mixed { at: 4194372 }));
+    Ok(())
+}
+
+#[test]
+fn packets_have_a_greatest_length(rt: HostRuntime) -> Result<(), Fail> {
+    let alloc = rt.alloc();
+    let mut data = Vec::new(alloc);
+    for _ in 0..262144 {
+        data.push(0)?;
+    }
+    let longest = b"\x06\0\0\0\x20\0\x04\0\0\0\0\0\0\0\0\0\0\0\0\0\0\0\x04\0\0\0\x04\0";
+    let longest_end = b"\x20\0\x04\0";
+    let longer = b"\x06\0\0\0\x24\0\x04\0\0\0\0\0\0\0\0\0\0\0\0\0\x01\0\x04\0\x01\0\x04\0";
+    let longer_end = b"\0\0\0\0\x24\0\x04\0";
+    let bytes = joined(alloc, &[SECTION, ETHERNET, longest, &data, longest_end])?;
+    assert_eq!(rt; shape(alloc, &bytes), Ok((1, 1, 0)));
+    let bytes = joined(alloc, &[SECTION, ETHERNET, longer, &data, longer_end])?;
+    assert_eq!(rt; shape(alloc, &bytes), Err(BlocksEnd::Block { at: 48 }));
     Ok(())
 }

@@ -29,10 +29,12 @@ fn units_per_second(resolution: u8) -> Option<u128>
 {
     if resolution < MANY_DIGITS {
         Some(power_of_ten(resolution))
-    } else if resolution < 128 || resolution >= MANY_BITS {
+    } else if resolution < 128 {
         None
-    } else {
+    } else if resolution < MANY_BITS {
         Some(1 << (resolution - 128))
+    } else {
+        None
     }
 }
 
