@@ -1,13 +1,12 @@
 -- What holds of every capture.
-use Rattle.std.proofs.Common.{◌≡◌, ℕ, ◌+◌, ◌<◌, ◌≤◌, ◌⊎◌, inl, inr, Bool, true, false, cond, List, [], ◌∷◌, ◌++◌, length, Option, Some, None, refl, sym, ◌∙◌, ap, subst, arith, length-append}
-use Rattle.std.specs.Prelude.{All, IsSome, is_none, nat_le}
+use Rattle.std.proofs.Common.{◌≡◌, ℕ, ◌+◌, ◌<◌, ◌≤◌, Bool, true, false, cond, List, [], ◌∷◌, length, Option, Some, None, refl, subst, arith, length-append}
+use Rattle.std.specs.Prelude.{All, is_none, nat_le}
 use Rattle.std.proofs.lemmas.Bool.Decides.{nat_tests}
 use Rattle.std.proofs.lemmas.List.Elements.{All-nil, All-cons, All-append}
-use Rattle.capture_terms.specs.Capture.{Answer, captured, refused, too_many_frames, Contents, IsAcceptedLink, IsWithin, link_numbered}
+use Rattle.capture_terms.specs.Capture.{captured, refused, too_many_frames, Contents, IsAcceptedLink, IsWithin, link_numbered}
 use Rattle.capture_terms.specs.declared.capture.CaptureFault.TheVariants as fault
-use Rattle.capture_terms.specs.declared.capture.Frame.{Frame}
 use Rattle.capture_terms.specs.declared.capture.Link.{Link}
-use Rattle.pcapng_blocks.specs.Answer.{Before, nothing, behind, is_mixed, packet_refusal, refusal_at, next_behind, IsTaken, AreBlocks, link_of, contents_behind, ending_of, IsBlocksAnswer, IsSound}
+use Rattle.pcapng_blocks.specs.Answer.{Before, nothing, behind, is_mixed, packet_refusal, refusal_at, next_behind, AreBlocks, link_of, contents_behind, ending_of, IsBlocksAnswer, IsSound}
 use Rattle.pcapng_blocks.specs.Times.{IsTimed}
 use Rattle.pcapng_blocks.specs.declared.terms.Block.{Block}
 use Rattle.pcapng_blocks.specs.declared.terms.Body.{Body}

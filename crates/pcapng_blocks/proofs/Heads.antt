@@ -1,5 +1,5 @@
 -- A file that begins with the type of a section header has its four bytes.
-use Rattle.std.proofs.Common.{◌≡◌, ◌≢◌, ℕ, ◌<◌, ◌≤◌, List, length, get_or, arith}
+use Rattle.std.proofs.Common.{◌≡◌, ◌≢◌, ℕ, ◌<◌, List, length, get_or, arith}
 use Rattle.std.proofs.Math.ListN.{get_or-eq_default}
 use Rattle.capture_terms.specs.Numbers.{number32}
 use Rattle.capture_terms.specs.declared.capture.Endianness.TheVariants.{Little}

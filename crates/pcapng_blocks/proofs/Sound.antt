@@ -1,5 +1,5 @@
 -- What stands at a place lies within the file.
-use Rattle.std.proofs.Common.{◌≡◌, ℕ, ◌+◌, ◌-◌, ◌<◌, ◌≤◌, ◌⊎◌, inl, inr, Bool, true, false, not, ◌==◌, cond, List, length, Option, Some, None, refl, subst, arith}
+use Rattle.std.proofs.Common.{◌≡◌, ℕ, ◌+◌, ◌-◌, ◌≤◌, ◌⊎◌, inl, inr, Bool, true, false, not, ◌==◌, cond, List, length, Option, Some, None, refl, subst, arith}
 use Rattle.std.specs.Prelude.{nat_lt, slice_get}
 use Rattle.std.proofs.lemmas.Bool.{cases_Bool}
 use Rattle.std.proofs.lemmas.Bool.Decides.{nat_tests}
@@ -7,7 +7,7 @@ use Rattle.std.proofs.lemmas.Nat.{mod_below}
 use Rattle.capture_terms.specs.Capture.{IsWithin}
 use Rattle.capture_terms.specs.Numbers.{number16, number32}
 use Rattle.capture_terms.specs.declared.capture.Endianness.{Endianness}
-use Rattle.pcapng_blocks.specs.Blocks.{section_at, interface_at, enhanced_fields, simple_fields, packet_of, is_held, packet_at, packet_in, enhanced_at, simple_at, whole_at, least_size, is_size, sized_at, ordered_at, short_at, order_at, next_at}
+use Rattle.pcapng_blocks.specs.Blocks.{section_at, enhanced_fields, simple_fields, packet_of, is_held, packet_at, packet_in, enhanced_at, simple_at, whole_at, least_size, is_size, sized_at, ordered_at, order_at, next_at}
 use Rattle.pcapng_blocks.specs.Times.{seconds_of, fraction_of, units_per_second, IsTimed}
 use Rattle.pcapng_blocks.specs.declared.terms.Block.{Block}
 use Rattle.pcapng_blocks.specs.declared.terms.Body.{Body}

@@ -6,7 +6,6 @@ use Rattle.std.specs.Prelude.{ℕ, ◌+◌, ◌-◌, ◌*◌, ◌%◌, min, Bool
 use Rattle.capture_terms.specs.Numbers.{number16, number32}
 use Rattle.capture_terms.specs.declared.capture.Endianness.{Endianness}
 use Rattle.capture_terms.specs.declared.capture.Endianness.TheVariants.{Little, Big}
-use Rattle.capture_terms.specs.declared.capture.Frame.{Frame}
 use Rattle.pcapng_blocks.specs.Options.{resolution_in}
 use Rattle.pcapng_blocks.specs.Times.{seconds_of, fraction_of}
 use Rattle.pcapng_blocks.specs.declared.terms.Body.TheVariants as body

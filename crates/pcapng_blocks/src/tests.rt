@@ -21,6 +21,11 @@ const SECTION_OTHER: &[u8] =
 const SECTION_SHORT: &[u8] =
     b"\x0a\x0d\x0d\x0a\x18\0\0\0\x4d\x3c\x2b\x1a\x01\0\0\0\xff\xff\xff\xff\x18\0\0\0";
 
+/// Its first 16 bytes, and its first 11.
+const SECTION_CUT: &[u8] = b"\x0a\x0d\x0d\x0a\x1c\0\0\0\x4d\x3c\x2b\x1a\x01\0\0\0";
+
+const ELEVEN: &[u8] = b"\x0a\x0d\x0d\x0a\x1c\0\0\0\x4d\x3c\x2b";
+
 /// An interface of Ethernet, without options and without a snapshot length.
 const ETHERNET: &[u8] = b"\x01\0\0\0\x14\0\0\0\x01\0\0\0\0\0\0\0\x14\0\0\0";
 
@@ -33,10 +38,13 @@ const OTHER_LINK: &[u8] = b"\x01\0\0\0\x14\0\0\0\x93\0\0\0\0\0\0\0\x14\0\0\0";
 
 const SNAPSHOT: &[u8] = b"\x01\0\0\0\x14\0\0\0\x01\0\0\0\x08\0\0\0\x14\0\0\0";
 
-/// The heads of an enhanced and of a simple packet of 47 bytes, and what stands behind their bytes.
+/// The heads of an enhanced and of a simple packet of 47 bytes, and what stands behind their bytes; and the
+/// same of an enhanced packet with another total length there.
 const ENHANCED: &[u8] = b"\x06\0\0\0\x50\0\0\0\0\0\0\0\0\0\0\0\0\0\0\0\x2f\0\0\0\x2f\0\0\0";
 
 const ENHANCED_END: &[u8] = b"\0\x50\0\0\0";
+
+const ENHANCED_OTHER_END: &[u8] = b"\0\x50\0\0\x01";
 
 const ENHANCED_BIG: &[u8] = b"\0\0\0\x06\0\0\0\x50\0\0\0\0\0\0\0\0\0\0\0\0\0\0\0\x2f\0\0\0\x2f";
 
@@ -84,6 +92,11 @@ fn joined(alloc: Global, parts: &[&[u8]]) -> Result<Vec<u8>, AllocError> {
     Ok(bytes)
 }
 
+/// A file of five parts.
+fn file(alloc: Global, parts: [&[u8]; 5]) -> Result<Vec<u8>, AllocError> {
+    joined(alloc, &parts)
+}
+
 /// The link type, the number of frames and that of torn bytes.
 fn shape(alloc: Global, bytes: &[u8]) -> Result<(u16, usize, u64), BlocksEnd> {
     if !is_pcapng(bytes) {
@@ -94,98 +107,93 @@ fn shape(alloc: Global, bytes: &[u8]) -> Result<(u16, usize, u64), BlocksEnd> {
 }
 
 #[test]
-fn reads_and_refuses_files_of_blocks(rt: HostRuntime) -> Result<(), Fail> {
+fn reads_files_of_blocks(rt: HostRuntime) -> Result<(), Fail> {
     let alloc = rt.alloc();
-    let twelve_short = &SECTION[..16];
     for (parts, wanted) in [
         // without packets, with a block that is passed over, and with packets of both kinds
-        ([SECTION, NONE, NONE, NONE, NONE], Ok((1, 0, 0))),
-        ([SECTION, PASSED, RAW_IP, NONE, NONE], Ok((1, 0, 0))),
-        ([SECTION, RAW_IP, FIRST, PASSED, NOTHING], Ok((101, 2, 0))),
-        // sections of both byte orders, each with its own interfaces
+        ([SECTION, NONE, NONE, NONE, NONE], (1, 0, 0)),
+        ([SECTION, PASSED, RAW_IP, NONE, NONE], (1, 0, 0)),
+        ([SECTION, RAW_IP, FIRST, PASSED, NOTHING], (101, 2, 0)),
+        // both byte orders in one file, a second interface, and one that isn't accepted and has no packet
         (
             [SECTION_BIG, ETHERNET_BIG, SECTION, ETHERNET, FIRST],
-            Ok((1, 1, 0)),
+            (1, 1, 0),
         ),
+        ([SECTION, ETHERNET, ETHERNET, FIRST, SECOND], (1, 2, 0)),
+        ([SECTION, ETHERNET, OTHER_LINK, FIRST, NONE], (1, 1, 0)),
+        // a simple packet that is longer than the snapshot length
+        ([SECTION, SNAPSHOT, EIGHT, NONE, NONE], (1, 1, 0)),
+        // a packet whole and without its last five bytes; tails within a head and behind one
         (
-            [SECTION, ETHERNET, FIRST, SECTION, FIRST],
-            Err(BlocksEnd::Block { at: 108 }),
+            [SECTION, ETHERNET, ENHANCED, FRAME, ENHANCED_END],
+            (1, 1, 0),
         ),
-        // a second interface, one that isn't there, one that isn't accepted, and one of another link type
-        ([SECTION, ETHERNET, ETHERNET, FIRST, SECOND], Ok((1, 2, 0))),
-        (
-            [SECTION, ETHERNET, SECOND, NONE, NONE],
-            Err(BlocksEnd::Block { at: 48 }),
-        ),
-        (
-            [SECTION, NOTHING, NONE, NONE, NONE],
-            Err(BlocksEnd::Block { at: 28 }),
-        ),
-        ([SECTION, ETHERNET, OTHER_LINK, FIRST, NONE], Ok((1, 1, 0))),
-        (
-            [SECTION, ETHERNET, OTHER_LINK, FIRST, SECOND],
-            Err(BlocksEnd::Link {
-                number: 147,
-                at: 56,
-            }),
-        ),
-        (
-            [SECTION, RAW_IP, ETHERNET, FIRST, SECOND],
-            Err(BlocksEnd::Mixed { at: 100 }),
-        ),
-        // a packet without room, and simple ones with and without a snapshot length
-        (
-            [SECTION, ETHERNET, NO_ROOM, NONE, NONE],
-            Err(BlocksEnd::Block { at: 48 }),
-        ),
-        ([SECTION, SNAPSHOT, EIGHT, NONE, NONE], Ok((1, 1, 0))),
-        (
-            [SECTION, ETHERNET, EIGHT, NONE, NONE],
-            Err(BlocksEnd::Block { at: 48 }),
-        ),
-        // total lengths, and torn tails within a head and behind one
-        (
-            [SECTION, OTHER_END, NONE, NONE, NONE],
-            Err(BlocksEnd::Block { at: 28 }),
-        ),
-        (
-            [SECTION, UNEVEN, NONE, NONE, NONE],
-            Err(BlocksEnd::Block { at: 28 }),
-        ),
-        (
-            [SECTION, SMALL, NONE, NONE, NONE],
-            Err(BlocksEnd::Block { at: 28 }),
-        ),
-        ([SECTION, ETHERNET, ENHANCED_END, NONE, NONE], Ok((1, 0, 5))),
-        ([SECTION, ETHERNET, ENHANCED, NONE, NONE], Ok((1, 0, 28))),
-        ([twelve_short, NONE, NONE, NONE, NONE], Ok((1, 0, 16))),
-        // at the head of the file: too few bytes, no byte order, a small total length, another version
-        (
-            [&SECTION[..11], NONE, NONE, NONE, NONE],
-            Err(BlocksEnd::Block { at: 0 }),
-        ),
-        (
-            [SECTION_OTHER, NONE, NONE, NONE, NONE],
-            Err(BlocksEnd::Block { at: 0 }),
-        ),
-        (
-            [SECTION_SHORT, NONE, NONE, NONE, NONE],
-            Err(BlocksEnd::Block { at: 0 }),
-        ),
+        ([SECTION, ETHERNET, ENHANCED, FRAME, NONE], (1, 0, 75)),
+        ([SECTION, ETHERNET, ENHANCED_END, NONE, NONE], (1, 0, 5)),
+        ([SECTION, ETHERNET, ENHANCED, NONE, NONE], (1, 0, 28)),
+        ([SECTION_CUT, NONE, NONE, NONE, NONE], (1, 0, 16)),
+    ] {
+        assert_eq!(rt; shape(alloc, &file(alloc, parts)?), Ok(wanted));
+    }
+    Ok(())
+}
+
+#[test]
+fn refuses_blocks(rt: HostRuntime) -> Result<(), Fail> {
+    let alloc = rt.alloc();
+    for (parts, at) in [
+        // the second total length is another
+        ([SECTION, ETHERNET, ENHANCED, FRAME, ENHANCED_OTHER_END], 48),
+        // an interface of the section before, and ones that no section has
+        ([SECTION, ETHERNET, FIRST, SECTION, FIRST], 108),
+        ([SECTION, ETHERNET, SECOND, NONE, NONE], 48),
+        ([SECTION, NOTHING, NONE, NONE, NONE], 28),
+        // packets for which their blocks have no room
+        ([SECTION, ETHERNET, NO_ROOM, NONE, NONE], 48),
+        ([SECTION, ETHERNET, EIGHT, NONE, NONE], 48),
+        // total lengths
+        ([SECTION, OTHER_END, NONE, NONE, NONE], 28),
+        ([SECTION, UNEVEN, NONE, NONE, NONE], 28),
+        ([SECTION, SMALL, NONE, NONE, NONE], 28),
+        // section headers: too few bytes, no byte order, a small total length
+        ([ELEVEN, NONE, NONE, NONE, NONE], 0),
+        ([SECTION_OTHER, NONE, NONE, NONE, NONE], 0),
+        ([SECTION_SHORT, NONE, NONE, NONE, NONE], 0),
+        ([SECTION, SECTION_OTHER, NONE, NONE, NONE], 28),
+    ] {
+        assert_eq!(rt;
+            shape(alloc, &file(alloc, parts)?),
+            Err(BlocksEnd::Block { at })
+        );
+    }
+    Ok(())
+}
+
+#[test]
+fn refuses_versions_and_links(rt: HostRuntime) -> Result<(), Fail> {
+    let alloc = rt.alloc();
+    for (parts, wanted) in [
         (
             [SECTION_TWO, NONE, NONE, NONE, NONE],
-            Err(BlocksEnd::Version { at: 12 }),
+            BlocksEnd::Version { at: 12 },
         ),
         (
             [SECTION, SECTION_TWO, NONE, NONE, NONE],
-            Err(BlocksEnd::Version { at: 40 }),
+            BlocksEnd::Version { at: 40 },
         ),
         (
-            [SECTION, SECTION_OTHER, NONE, NONE, NONE],
-            Err(BlocksEnd::Block { at: 28 }),
+            [SECTION, ETHERNET, OTHER_LINK, FIRST, SECOND],
+            BlocksEnd::Link {
+                number: 147,
+                at: 56,
+            },
+        ),
+        (
+            [SECTION, RAW_IP, ETHERNET, FIRST, SECOND],
+            BlocksEnd::Mixed { at: 100 },
         ),
     ] {
-        assert_eq!(rt; shape(alloc, &joined(alloc, &parts)?), wanted);
+        assert_eq!(rt; shape(alloc, &file(alloc, parts)?), Err(wanted));
     }
     Ok(())
 }
@@ -236,17 +244,6 @@ fn tells_a_frame(rt: HostRuntime) -> Result<(), Fail> {
     ] {
         assert_eq!(rt; only_frame(alloc, &parts)?, wanted);
     }
-    Ok(())
-}
-
-#[test]
-fn a_torn_or_wrong_end_is_no_frame(rt: HostRuntime) -> Result<(), Fail> {
-    let alloc = rt.alloc();
-    let whole = joined(alloc, &[SECTION, ETHERNET, ENHANCED, FRAME, ENHANCED_END])?;
-    assert_eq!(rt; shape(alloc, &whole), Ok((1, 1, 0)));
-    assert_eq!(rt; shape(alloc, &whole[..123]), Ok((1, 0, 75)));
-    let wrong = joined(alloc, &[&whole[..127], b"\x01"])?;
-    assert_eq!(rt; shape(alloc, &wrong), Err(BlocksEnd::Block { at: 48 }));
     Ok(())
 }
 
@@ -332,20 +329,34 @@ fn counts_frames(rt: HostRuntime) -> Result<(), Fail> {
     Ok(())
 }
 
+/// The heads and ends of enhanced packets of 262,144 and of 262,145 bytes, the second with the last byte
+/// of the packet.
+const LONGEST: &[u8] = b"\x06\0\0\0\x20\0\x04\0\0\0\0\0\0\0\0\0\0\0\0\0\0\0\x04\0\0\0\x04\0";
+
+const LONGEST_END: &[u8] = b"\x20\0\x04\0";
+
+const LONGER: &[u8] = b"\x06\0\0\0\x24\0\x04\0\0\0\0\0\0\0\0\0\0\0\0\0\x01\0\x04\0\x01\0\x04\0";
+
+const LONGER_END: &[u8] = b"\0\0\0\0\x24\0\x04\0";
+
+/// A file with a packet of this head and this end.
+fn long_file(alloc: Global, head: &[u8], end: &[u8]) -> Result<Vec<u8>, AllocError> {
+    let mut bytes = joined(alloc, &[SECTION, ETHERNET, head])?;
+    for _ in 0..262144 {
+        bytes.push(0)?;
+    }
+    bytes.extend_from_slice(end)?;
+    Ok(bytes)
+}
+
 #[test]
 fn packets_have_a_greatest_length(rt: HostRuntime) -> Result<(), Fail> {
     let alloc = rt.alloc();
-    let mut data = Vec::new(alloc);
-    for _ in 0..262144 {
-        data.push(0)?;
+    for (head, end, wanted) in [
+        (LONGEST, LONGEST_END, Ok((1, 1, 0))),
+        (LONGER, LONGER_END, Err(BlocksEnd::Block { at: 48 })),
+    ] {
+        assert_eq!(rt; shape(alloc, &long_file(alloc, head, end)?), wanted);
     }
-    let longest = b"\x06\0\0\0\x20\0\x04\0\0\0\0\0\0\0\0\0\0\0\0\0\0\0\x04\0\0\0\x04\0";
-    let longest_end = b"\x20\0\x04\0";
-    let longer = b"\x06\0\0\0\x24\0\x04\0\0\0\0\0\0\0\0\0\0\0\0\0\x01\0\x04\0\x01\0\x04\0";
-    let longer_end = b"\0\0\0\0\x24\0\x04\0";
-    let bytes = joined(alloc, &[SECTION, ETHERNET, longest, &data, longest_end])?;
-    assert_eq!(rt; shape(alloc, &bytes), Ok((1, 1, 0)));
-    let bytes = joined(alloc, &[SECTION, ETHERNET, longer, &data, longer_end])?;
-    assert_eq!(rt; shape(alloc, &bytes), Err(BlocksEnd::Block { at: 48 }));
     Ok(())
 }

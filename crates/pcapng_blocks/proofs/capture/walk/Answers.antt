@@ -1,5 +1,5 @@
-use Rattle.std.proofs.Common.{◌≡◌, ℕ, ◌+◌, List, [], ◌∷◌, ◌++◌, refl, sym, subst, arith}
-use Rattle.pcapng_blocks.specs.Answer.{Before, AreBlocks, IsTaken, behind, next_behind, nothing}
+use Rattle.std.proofs.Common.{◌≡◌, ℕ, ◌+◌, List, [], ◌∷◌, ◌++◌, sym, subst, arith}
+use Rattle.pcapng_blocks.specs.Answer.{Before, AreBlocks, next_behind, nothing}
 use Rattle.pcapng_blocks.specs.Reader.{before_of, Takes}
 use Rattle.pcapng_blocks.specs.declared.capture.Reading.{Reading}
 use Rattle.pcapng_blocks.specs.declared.terms.Block.{Block}

@@ -1,4 +1,4 @@
-use Rattle.std.proofs.Common.{◌≡◌, ◌≤◌, ◌+◌, ◌-◌, refl, sym, ◌∙◌, arith}
+use Rattle.std.proofs.Common.{◌≡◌, ◌-◌, refl, sym, ◌∙◌, arith}
 use Rattle.pcapng_blocks.specs.Options.{option_end, resolution_in}
 use Rattle.pcapng_blocks.proofs.Resolutions.{none_there, found_there, passed_there}
 use Rattle.pcapng_blocks.proofs.options.resolution.Goals as goal

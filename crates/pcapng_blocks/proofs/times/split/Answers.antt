@@ -1,6 +1,6 @@
 use Rattle.std.proofs.Common.{◌≡◌, arith}
 use Rattle.pcapng_blocks.specs.Times.{units_per_second, seconds_of, fraction_of}
-use Rattle.pcapng_blocks.proofs.Seconds.{no_seconds, no_fraction, fraction_small}
+use Rattle.pcapng_blocks.proofs.Seconds.{no_seconds, no_fraction}
 use Rattle.pcapng_blocks.proofs.times.split.Goals as goal
 
 pub returns-in_default-clause-seconds : goal.returns-in_default-clause-seconds
