@@ -1,7 +1,8 @@
 -- The blocks of a pcapng file, as the draft "PCAP Next Generation (pcapng) Capture File Format" lays them
 -- out: a type, a total length, a body and the total length again (section 3.1), all in the byte order of
--- the section. Ours alone are the least total lengths, the limit of 262,144, what is done with a file that
--- ends within a block, and that blocks of other types and most options are passed over.
+-- the section. What is read of them is this project's own profile: the least total lengths, the limit of
+-- 262,144, the captured length of simple packets, what is done with a file that ends within a block, and
+-- that blocks of other types and most options are passed over.
 use Rattle.std.specs.Prelude.{ℕ, ◌+◌, ◌-◌, ◌*◌, ◌%◌, min, Bool, not, ◌&&◌, ◌==◌, nat_lt, nat_le, List, length, slice_get, Option, Some, None, if◌then◌else◌}
 use Rattle.capture_terms.specs.Numbers.{number16, number32}
 use Rattle.capture_terms.specs.declared.capture.Endianness.{Endianness}

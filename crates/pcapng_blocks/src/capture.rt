@@ -1,7 +1,8 @@
-ghost use Rattle.std.specs.Prelude.{◌≡◌, ◌≤◌, length, OnOk, IfOk, IfErr, IfSome, IsTrue, All};
+ghost use Rattle.std.specs.Prelude.{◌≡◌, ◌≤◌, true, length, OnOk, IfOk, IfErr, IfSome, IsTrue, All};
 ghost use Rattle.capture_terms.specs.Capture.{Answer, IsAcceptedLink, IsWithin, contents_of};
 ghost use Rattle.pcapng_blocks.specs.Answer as answer;
-ghost use Rattle.pcapng_blocks.specs.Answer.{IsBlocksAnswer, IsSound, answer_of, refusal_of, contents_behind};
+ghost use Rattle.pcapng_blocks.specs.Answer.{IsBlocksAnswer, answer_of, refusal_of, contents_behind};
+ghost use Rattle.pcapng_blocks.specs.Times.{IsTimed};
 ghost use Rattle.pcapng_blocks.specs.Reader.{before_of, Refuses, Takes};
 ghost use Rattle.pcapng_blocks.specs.declared.capture.BlocksEnd.TheVariants.{Memory};
 ghost use Rattle.pcapng_blocks.specs.declared.terms.Body.TheVariants as body;
@@ -151,7 +152,19 @@ pub fn is_pcapng(bytes: &[u8]) -> bool
     u32_at(Endianness::Little, bytes, 0) == SECTION
 }
 
-/// The capture that a file in the pcapng format holds.
+/// The capture that a file in the pcapng format holds, as the draft "PCAP Next Generation (pcapng) Capture
+/// File Format" lays it out: the frames of its enhanced and simple packets in their order, their link type,
+/// and the number of bytes at its end that are no whole block.
+///
+/// A file may have several sections, each in its own byte order and with its own interfaces. The times of
+/// an enhanced packet are counted in the units of its interface, a power of ten or of two in a second, and
+/// come as whole seconds since 1970, of which the low 32 bits are kept, and nanoseconds; a simple packet has
+/// the time 0. All packets have one link type, and a capture without any has 1. Blocks of other types, the
+/// minor version, the length of a section and all options but the first resolution are passed over. The
+/// frames keep the places of their bytes, and no byte is copied.
+///
+/// A file that is no capture is refused for the first reason that holds, by `Block`, `Version`, `Link`,
+/// `Mixed` or `TooMany`, at the first place where one does. `Memory` may come for any file.
 pub fn blocks(alloc: Global, bytes: &[u8]) -> Result<Capture, BlocksEnd>
     requires { IsTrue (answer.is_pcapng bytes.now) }
     // The capture is the one that the file is; a refusal has its reason.
@@ -159,8 +172,8 @@ pub fn blocks(alloc: Global, bytes: &[u8]) -> Result<Capture, BlocksEnd>
 
     // A file that is a capture gives it, and one to be refused is refused, unless memory runs out.
     ensures only { (answer : Answer) → IsBlocksAnswer bytes.now answer → IfSome (answer_of result) (λ given. given ≡ answer) }
-    // Its times are in nanoseconds.
-    ensures sound { IfOk result (λ capture. IsSound bytes.now (contents_of capture)) }
+    ensures nanos { IfOk result (λ capture. capture.nanos ≡ true) }
+    ensures times { IfOk result (λ capture. All IsTimed capture.frames.items) }
     ensures within { IfOk result (λ capture. All (IsWithin bytes.now) capture.frames.items) }
     ensures few { IfOk result (λ capture. length capture.frames.items ≤ 262144) }
     ensures link { IfOk result (λ capture. IsAcceptedLink capture.link) }

@@ -1,4 +1,4 @@
-ghost use Rattle.std.specs.Prelude.{◌≡◌, ◌+◌, ◌≤◌, true, false, length, MatchOption};
+ghost use Rattle.std.specs.Prelude.{◌≡◌, ◌+◌, ◌≤◌, true, false, length, IfNone, IfSome};
 ghost use Rattle.pcapng_blocks.specs.Options as terms;
 
 use capture_terms::Endianness;
@@ -6,12 +6,14 @@ use pcap_frames::u16_at;
 
 const RESOLUTION: u16 = 9;
 
-const MICROSECONDS: u8 = 6;
+const MICROSECONDS_RESOLUTION: u8 = 6;
 
 // Where the option at a place ends, if one stands there.
 fn option_end(order: Endianness, bytes: &[u8], end: usize, at: usize) -> Option<usize>
     requires within { end ≤ length bytes.now }
-    ensures { MatchOption result (terms.is_option order bytes.now end at ≡ false) (λ next. (next ≡ terms.option_end order bytes.now at) × (terms.is_option order bytes.now end at ≡ true)) }
+    ensures none { IfNone result (terms.is_option order bytes.now end at ≡ false) }
+    ensures there { IfSome result (λ _. terms.is_option order bytes.now end at ≡ true) }
+    ensures next { IfSome result (λ next. next ≡ terms.option_end order bytes.now at) }
 {
     if end < 4 || at > end - 4 || u16_at(order, bytes, at) == 0 {
         return None;
@@ -41,5 +43,5 @@ pub fn resolution(order: Endianness, bytes: &[u8], end: usize, from: usize) -> u
         }
         at = next;
     }
-    MICROSECONDS
+    MICROSECONDS_RESOLUTION
 }
