@@ -1,5 +1,7 @@
 #!/usr/bin/env python3
-"""Writes captures for the benchmark: captures.py KIND FRAMES FILE.
+"""Writes captures for the benchmark: captures.py KIND FRAMES FILE [pcapng].
+
+With the last word it writes the same frames as a pcapng file, of one section and one interface.
 
 KIND is `mixed` (whole UDP datagrams, other frames and datagrams in three fragments), `whole` (small whole
 datagrams), `clashing` (8,192 places of one datagram, sent again and again; the last three lie beyond the
@@ -25,6 +27,22 @@ def file_header():
 
 def record(seconds, frame):
     return struct.pack("<IIII", seconds, 0, len(frame), len(frame)) + frame
+
+
+def block(kind, body):
+    body += bytes(-len(body) % 4)
+    size = struct.pack("<I", 12 + len(body))
+    return struct.pack("<I", kind) + size + body + size
+
+
+def section_header():
+    section = block(0x0A0D0D0A, struct.pack("<IHHq", 0x1A2B3C4D, 1, 0, -1))
+    return section + block(1, struct.pack("<HHI", 1, 0, 262144))
+
+
+def enhanced_packet(seconds, frame):
+    high, low = divmod(seconds * 1000000, 2**32)
+    return block(6, struct.pack("<IIIII", 0, high, low, len(frame), len(frame)) + frame)
 
 
 def ip(identification, offset, more, protocol, data, source=SOURCE):
@@ -157,11 +175,12 @@ SECONDS = {
 
 def main():
     kind, frames, name = sys.argv[1], int(sys.argv[2]), sys.argv[3]
+    head, packet = (section_header, enhanced_packet) if sys.argv[4:] == ["pcapng"] else (file_header, record)
     seconds = SECONDS.get(kind, lambda number, frames: number)
     with open(name, "wb") as out:
-        out.write(file_header())
+        out.write(head())
         for number, frame in enumerate(KINDS[kind](frames)):
-            out.write(record(seconds(number, frames), frame))
+            out.write(packet(seconds(number, frames), frame))
 
 
 main()
