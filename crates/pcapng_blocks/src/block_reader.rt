@@ -7,7 +7,8 @@ use crate::times::seconds_and_nanoseconds;
 use capture_terms::{Endianness, Frame};
 use pcap_frames::{u16_at, u32_at};
 
-const SECTION: u32 = 0x0a0d0d0a;
+/// The type of a section header. It reads the same in either byte order.
+pub const SECTION: u32 = 0x0a0d0d0a;
 
 const INTERFACE: u32 = 1;
 

@@ -7,7 +7,7 @@ ghost use Rattle.pcapng_blocks.specs.Reader.{before_of, Refuses, Takes};
 ghost use Rattle.pcapng_blocks.specs.declared.capture.BlocksEnd.TheVariants.{Memory};
 ghost use Rattle.pcapng_blocks.specs.declared.terms.Body.TheVariants as body;
 
-use crate::block_reader::next_at;
+use crate::block_reader::{SECTION, next_at};
 use crate::laws::{one_answer_law, sound_law};
 use crate::terms::{Body, Interface, Next, Packet};
 use capture_terms::{Capture, Endianness, Frame, Link};
@@ -20,8 +20,6 @@ const MAX_FRAMES: usize = 262144;
 const LEAST_PACKET: usize = 16;
 
 const ETHERNET: u16 = 1;
-
-const SECTION: u32 = 0x0a0d0d0a;
 
 /// Why bytes are not read as a pcapng capture.
 #[derive(Clone, Copy, Debug, PartialEq, Eq)]
