@@ -1,7 +1,7 @@
 use capture_terms::{Endianness, Frame};
 
 /// An interface on which packets of a section were captured, as its block describes it.
-#[derive(Clone, Copy, Debug, PartialEq, Eq)]
+#[derive(Clone, Copy)]
 pub struct Interface {
     /// The number of the link type of its packets.
     pub link: u16,
@@ -14,7 +14,7 @@ pub struct Interface {
 }
 
 /// A packet: its frame, and the link type of its interface with that number's place in the file.
-#[derive(Clone, Copy, Debug, PartialEq, Eq)]
+#[derive(Clone, Copy)]
 pub struct Packet {
     pub link: u16,
     pub link_at: u64,
@@ -22,7 +22,7 @@ pub struct Packet {
 }
 
 /// What the block of a packet says of it.
-#[derive(Clone, Copy, Debug, PartialEq, Eq)]
+#[derive(Clone, Copy)]
 pub struct PacketFields {
     /// When it was captured, in units of its interface.
     pub time: u64,
@@ -37,7 +37,7 @@ pub struct PacketFields {
 }
 
 /// What a whole block says.
-#[derive(Clone, Copy, Debug, PartialEq, Eq)]
+#[derive(Clone, Copy)]
 pub enum Body {
     /// A section begins, in this byte order.
     Section(Endianness),
@@ -49,14 +49,14 @@ pub enum Body {
 }
 
 /// A whole block, with its total length in bytes.
-#[derive(Clone, Copy, Debug, PartialEq, Eq)]
+#[derive(Clone, Copy)]
 pub struct Block {
     pub body: Body,
     pub size: u32,
 }
 
 /// What stands at a place where a block may begin.
-#[derive(Clone, Copy, Debug, PartialEq, Eq)]
+#[derive(Clone, Copy)]
 pub enum Next {
     Block(Block),
     /// So many bytes, which are no whole block, and the end of the file.
