@@ -1,6 +1,12 @@
 -- A line that is written in three pieces, one behind the other.
 use Rattle.std.proofs.Common.{◌≡◌, List, ℕ, ◌++◌, Option, Some, sym, ◌∙◌, ap, append_assoc, subst}
+use Rattle.std.specs.Prelude.{Result, Ok, Err, OnErr}
 use Rattle.byte_ends.specs.Told.{Grows, GrowsByPrefix}
+
+-- what holds anyway holds at an error
+pub always : {T E Q : Type 0} (r : Result T E) → Q → OnErr r Q
+always (Ok x) q = tt
+always (Err e) q = q
 
 prefix_then : (before now : Option (List ℕ)) (a c : List ℕ) → GrowsByPrefix before now a → GrowsByPrefix before now (a ++ c)
 prefix_then before now a c part = record {

@@ -5,9 +5,9 @@ use Rattle.std.specs.Fmt.{decimal}
 use Rattle.report.specs.declared.fault.Fault.{Fault}
 use Rattle.report.specs.declared.fault.Fault.TheVariants.{Usage, Read, Write, Rules, Capture, LimitFile, LimitFrames, LimitRules, LimitFindings, Memory}
 use Rattle.capture_terms.specs.declared.capture.CaptureFault.{CaptureFault}
-use Rattle.capture_terms.specs.declared.capture.CaptureFault.TheVariants.{Header, Version, Link, Record}
+use Rattle.capture_terms.specs.declared.capture.CaptureFault.TheVariants.{Header, Version, Link, Record, Block, MixedLink, BlockVersion, BlockLink}
 use Rattle.report.specs.declared.fault.Detail.{Detail}
-use Rattle.report.specs.declared.fault.Detail.TheVariants.{Text, Number}
+use Rattle.report.specs.declared.fault.Detail.TheVariants.{Text, Number, NumberAt}
 
 -- a fault as a plain value, in which a file is told by the bytes of its name
 pub data Cause : Type 0 where
@@ -47,11 +47,18 @@ status_of many_rules = 6
 status_of many_findings = 6
 status_of no_memory = 7
 
+abbrev pub number_at : ℕ → ℕ → List ℕ
+number_at number at = decimal number ++ codes " at " ++ decimal at
+
 abbrev pub capture_words : CaptureFault → List ℕ
 capture_words (Header at) = codes "header at " ++ decimal at
 capture_words Version = codes "version at 4"
 capture_words (Link number) = codes "link " ++ decimal number ++ codes " at 20"
 capture_words (Record at) = codes "record at " ++ decimal at
+capture_words (Block at) = codes "block at " ++ decimal at
+capture_words (MixedLink at) = codes "mixed link at " ++ decimal at
+capture_words (BlockVersion at) = codes "version at " ++ decimal at
+capture_words (BlockLink number at) = codes "link " ++ number_at number at
 
 -- what is told of it
 abbrev pub words_of : Cause → List ℕ
@@ -73,3 +80,4 @@ line_of cause = words_of cause ++ 10 ∷ []
 abbrev pub detail_bytes : Detail → List ℕ
 detail_bytes (Text bytes) = bytes.now
 detail_bytes (Number number) = decimal number
+detail_bytes (NumberAt number at) = number_at number at

@@ -51,4 +51,5 @@ impl Fault<'_> {
 pub(crate) enum Detail<'a> {
     Text(&'a [u8]),
     Number(u64),
+    NumberAt { number: u64, at: u64 },
 }

@@ -1,7 +1,8 @@
 // The line of a fault, in pieces, so that it takes no memory.
 ghost use Rattle.std.specs.Prelude.{◌≡◌, ◌≤◌, ◌++◌, OnOk, OnErr};
+ghost use Rattle.std.specs.Fmt.{decimal};
 ghost use Rattle.byte_ends.specs.Told.{Rose, Grows, GrowsByPrefix};
-ghost use Rattle.report.specs.Fault.{cause_of, line_of, detail_bytes};
+ghost use Rattle.report.specs.Fault.{cause_of, line_of, detail_bytes, number_at};
 
 use crate::fault::{Detail, Fault};
 use byte_ends::{Failed, Sink, write_all};
@@ -26,6 +27,27 @@ pub fn write_fault<E: Sink>(sink: &mut E, fault: &Fault<'_>) -> Result<(), Faile
     write_all(sink, back)
 }
 
+fn write_number<E: Sink>(sink: &mut E, number: u64) -> Result<(), Failed>
+    ensures all { OnOk result (Grows (E.written sink.old) (E.written sink.new) (decimal number)) }
+    ensures prefix { OnErr result (GrowsByPrefix (E.written sink.old) (E.written sink.new) (decimal number)) }
+    ensures counts { E.faults sink.old ≤ E.faults sink.new }
+    ensures cause { OnErr result (Rose (E.faults sink.old) (E.faults sink.new)) }
+{
+    let mut buffer = Buffer::new();
+    write_all(sink, buffer.format(number).as_bytes())
+}
+
+fn write_number_at<E: Sink>(sink: &mut E, number: u64, at: u64) -> Result<(), Failed>
+    ensures all { OnOk result (Grows (E.written sink.old) (E.written sink.new) (number_at number at)) }
+    ensures prefix { OnErr result (GrowsByPrefix (E.written sink.old) (E.written sink.new) (number_at number at)) }
+    ensures counts { E.faults sink.old ≤ E.faults sink.new }
+    ensures cause { OnErr result (Rose (E.faults sink.old) (E.faults sink.new)) }
+{
+    write_number(sink, number)?;
+    write_all(sink, b" at ")?;
+    write_number(sink, at)
+}
+
 fn write_detail<E: Sink>(sink: &mut E, detail: Detail<'_>) -> Result<(), Failed>
     ensures all { OnOk result (Grows (E.written sink.old) (E.written sink.new) (detail_bytes detail.entry)) }
     ensures prefix { OnErr result (GrowsByPrefix (E.written sink.old) (E.written sink.new) (detail_bytes detail.entry)) }
@@ -34,10 +56,8 @@ fn write_detail<E: Sink>(sink: &mut E, detail: Detail<'_>) -> Result<(), Failed>
 {
     match detail {
         Detail::Text(bytes) => write_all(sink, bytes),
-        Detail::Number(number) => {
-            let mut buffer = Buffer::new();
-            write_all(sink, buffer.format(number).as_bytes())
-        }
+        Detail::Number(number) => write_number(sink, number),
+        Detail::NumberAt { number, at } => write_number_at(sink, number, at),
     }
 }
 
@@ -69,6 +89,23 @@ fn parts_of<'a>(fault: &Fault<'a>) -> (&'static [u8], Detail<'a>, &'static [u8])
             Detail::Number(at),
             b"\n",
         ),
+        Fault::Capture(CaptureFault::Block { at }) => {
+            (b"bad capture: block at ", Detail::Number(at), b"\n")
+        }
+        Fault::Capture(CaptureFault::BlockVersion { at }) => {
+            (b"bad capture: version at ", Detail::Number(at), b"\n")
+        }
+        Fault::Capture(CaptureFault::BlockLink { number, at }) => (
+            b"bad capture: link ",
+            Detail::NumberAt {
+                number: u64::from(number),
+                at,
+            },
+            b"\n",
+        ),
+        Fault::Capture(CaptureFault::MixedLink { at }) => {
+            (b"bad capture: mixed link at ", Detail::Number(at), b"\n")
+        }
         Fault::LimitFile(name) => (b"limit: file ", Detail::Text(name.as_bytes()), b"\n"),
         Fault::LimitFrames => (b"limit: frames", Detail::Text(b""), b"\n"),
         Fault::LimitRules => (b"limit: rules", Detail::Text(b""), b"\n"),

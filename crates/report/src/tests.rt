@@ -224,7 +224,7 @@ fn a_report_has_eleven_counts_and_a_line_for_each_finding(rt: HostRuntime) -> Re
 
 #[test]
 fn each_fault_is_told_by_its_line(rt: HostRuntime) -> Result<(), Fail> {
-    let lines: [(Fault<'static>, &str); 13] = [
+    let lines: [(Fault<'static>, &str); 17] = [
         (
             Fault::Usage,
             "usage: inspect|journal [--workers N] [--findings N] [--window N] RULES CAPTURE | make SEED FRAMES | trial [--workers N] SEED FRAMES\n",
@@ -247,6 +247,25 @@ fn each_fault_is_told_by_its_line(rt: HostRuntime) -> Result<(), Fail> {
         (
             Fault::Capture(CaptureFault::Record { at: 24 }),
             "bad capture: record at 24\n",
+        ),
+        (
+            Fault::Capture(CaptureFault::Block { at: 48 }),
+            "bad capture: block at 48\n",
+        ),
+        (
+            Fault::Capture(CaptureFault::BlockVersion { at: 12 }),
+            "bad capture: version at 12\n",
+        ),
+        (
+            Fault::Capture(CaptureFault::BlockLink {
+                number: 147,
+                at: 36,
+            }),
+            "bad capture: link 147 at 36\n",
+        ),
+        (
+            Fault::Capture(CaptureFault::MixedLink { at: 4_294_967_296 }),
+            "bad capture: mixed link at 4294967296\n",
         ),
         (Fault::LimitFile("c"), "limit: file c\n"),
         (Fault::LimitFrames, "limit: frames\n"),

@@ -1,12 +1,6 @@
-use Rattle.std.specs.Prelude.{Result, Ok, Err, OnErr}
 use Rattle.std.proofs.lemmas.Result.{on_ok_weaker, on_err_weaker}
-use Rattle.report.proofs.Pieces.{whole, fails_first, fails_second, fails_third}
+use Rattle.report.proofs.Pieces.{always, whole, fails_first, fails_second, fails_third}
 use Rattle.report.proofs.fault_line.write_fault.Goals as goal
-
--- what holds anyway holds at an error
-always : {T E Q : Type 0} (r : Result T E) → Q → OnErr r Q
-always (Ok x) q = tt
-always (Err e) q = q
 
 pub returns-in_err-write_all-clause-prefix : goal.returns-in_err-write_all-clause-prefix
 returns-in_err-write_all-clause-prefix g c = always _ (fails_first _ _ _ _ c.parts_of.ensures _ _ c.in_err-write_all.ensures.prefix)
