@@ -20,13 +20,13 @@ use Rattle.ipv4_fragments.proofs.GroupNumbers.{tied, same_headers}
 
 -- Keys.
 
-abbrev is_same : Key → Key → Bool
+abbrev pub is_same : Key → Key → Bool
 is_same k l = is_same_header k.header l.header && (k.id == l.id)
 
 key_with : (s d p i : ℕ) → Key
 key_with s d p i = record { header = record { source = s; destination = d; protocol = p }; id = i }
 
-same_key : (k l : Key) → is_same k l ≡ true → k ≡ l
+pub same_key : (k l : Key) → is_same k l ≡ true → k ≡ l
 unfolding key_with
 same_key k l same =
     let source : k.header.source ≡ l.header.source = grind (arith, nat_tests) in
@@ -38,10 +38,10 @@ same_key k l same =
     ∙ ap (λ (n : ℕ). key_with l.header.source l.header.destination n k.id) protocol
     ∙ ap (λ (n : ℕ). key_with l.header.source l.header.destination l.header.protocol n) id
 
-same_itself : (k : Key) → is_same k k ≡ true
+pub same_itself : (k : Key) → is_same k k ≡ true
 same_itself k = grind (arith, nat_tests)
 
-same_keys : (k l : Key) → is_eq (key_cmp k l) ≡ is_same k l
+pub same_keys : (k l : Key) → is_eq (key_cmp k l) ≡ is_same k l
 same_keys k l = tied _ _ _ _ (same_headers k.header l.header) (unsigned_tied k.id l.id)
 
 same_swapped : (k l : Key) (b : Bool) → is_same k l ≡ b → is_same l k ≡ b
@@ -88,11 +88,11 @@ last_push o [] x = refl
 last_push o (y ∷ xs) x = last_push (Some y) xs x
 
 module _ (law : (window : ℕ) (times : List ℕ) (time : ℕ) → beginnings window (times ++ time ∷ []) ≡ with_beginning window (beginnings window times) time) where
-  newest_step : (window : ℕ) (times : List ℕ) (o : Option Newest) (time : ℕ) → IsNewest window times o → IsNewest window (times ++ time ∷ []) (Some (newest_behind o window time))
-  newest_step window times None time none =
+  newest_step : (next window : ℕ) (times : List ℕ) (o : Option Newest) (time : ℕ) → IsNewest window times o → IsNewest window (times ++ time ∷ []) (Some (newest_behind o window time next))
+  newest_step next window times None time none =
       let now : beginnings window (times ++ time ∷ []) ≡ time ∷ [] = law window times time ∙ (rw none refl) in
       (ap (last_or None) now, ap (length {A = ℕ}) now)
-  newest_step window times (Some n) time is = by_case (is_later n window time) refl
+  newest_step next window times (Some n) time is = by_case (is_later n window time) refl
     where
       begun : List ℕ
       begun = beginnings window times
@@ -100,18 +100,18 @@ module _ (law : (window : ℕ) (times : List ℕ) (time : ℕ) → beginnings wi
       now : (b : Bool) → is_later n window time ≡ b → beginnings window (times ++ time ∷ []) ≡ (if b then begun ++ time ∷ [] else begun)
       now b later = law window times time ∙ ap (λ (o : Option ℕ). if begins window o time then begun ++ time ∷ [] else begun) is.0 ∙ ap (λ (b : Bool). if b then begun ++ time ∷ [] else begun) later
 
-      by_case : (b : Bool) → is_later n window time ≡ b → IsNewest window (times ++ time ∷ []) (Some (if b then record { began = time; generation = n.generation + 1 } else n))
+      by_case : (b : Bool) → is_later n window time ≡ b → IsNewest window (times ++ time ∷ []) (Some (if b then record { began = time; generation = n.generation + 1; group = next } else n))
       by_case true later =
           let long = ap (length {A = ℕ}) (now true later) ∙ length-append begun (time ∷ []) in
           (ap (last_or None) (now true later) ∙ last_push None begun time, omega (arith, long, is.1))
       by_case false later = (ap (last_or None) (now false later) ∙ is.0, ap (length {A = ℕ}) (now false later) ∙ is.1)
 
   -- a fragment more, of which the newest generation was told
-  module _ (old : Generations) (frames : List Timed) (tells : Tells old frames) (p : Piece) (time : ℕ) (told : Newest) (is : told ≡ newest_behind (get key_cmp old.newest (key_of p)) old.window time) where
+  module _ (old : Generations) (frames : List Timed) (tells : Tells old frames) (p : Piece) (time next : ℕ) (told : Newest) (is : told ≡ newest_behind (get key_cmp old.newest (key_of p)) old.window time next) where
     pub told_right : told.generation ≡ generation_at old.window (times_of p frames ++ time ∷ [])
     told_right =
-        let now = newest_step old.window (times_of p frames) (get key_cmp old.newest (key_of p)) time (tells.newest p) in
-        let same : told.generation ≡ (newest_behind (get key_cmp old.newest (key_of p)) old.window time).generation = ap (λ (n : Newest). n.generation) is in
+        let now = newest_step next old.window (times_of p frames) (get key_cmp old.newest (key_of p)) time (tells.newest p) in
+        let same : told.generation ≡ (newest_behind (get key_cmp old.newest (key_of p)) old.window time next).generation = ap (λ (n : Newest). n.generation) is in
         omega (arith, now.1, same)
 
     pub tells_more : (new : Generations) → new.window ≡ old.window → HasPut key_cmp old.newest new.newest (key_of p) told → IfSome new.last (λ l. get key_cmp new.newest l.0 ≡ Some l.1) → Tells new (frames ++ fragment_at time p ∷ [])
@@ -124,9 +124,9 @@ module _ (law : (window : ℕ) (times : List ℕ) (time : ℕ) → beginnings wi
         by_case q true same =
             let keys = same_key (key_of p) (key_of q) same in
             let here : get key_cmp new.newest (key_of q) ≡ Some told = put (key_of q) ∙ ap (λ (b : Bool). if b then Some told else get key_cmp old.newest (key_of q)) (same_keys (key_of p) (key_of q) ∙ same) in
-            let now : Some (newest_behind (get key_cmp old.newest (key_of q)) old.window time) ≡ get key_cmp new.newest (key_of q) = ap (λ (k : Key). Some (newest_behind (get key_cmp old.newest k) old.window time)) (sym keys) ∙ ap Some (sym is) ∙ sym here in
+            let now : Some (newest_behind (get key_cmp old.newest (key_of q)) old.window time next) ≡ get key_cmp new.newest (key_of q) = ap (λ (k : Key). Some (newest_behind (get key_cmp old.newest k) old.window time next)) (sym keys) ∙ ap Some (sym is) ∙ sym here in
             subst (λ (l : List ℕ). IsNewest old.window l (get key_cmp new.newest (key_of q))) (sym (times_same q p frames time (same_swapped (key_of p) (key_of q) true same)))
-            (subst (IsNewest old.window (times_of q frames ++ time ∷ [])) now (newest_step old.window (times_of q frames) (get key_cmp old.newest (key_of q)) time (tells.newest q)))
+            (subst (IsNewest old.window (times_of q frames ++ time ∷ [])) now (newest_step next old.window (times_of q frames) (get key_cmp old.newest (key_of q)) time (tells.newest q)))
         by_case q false other =
             let here : get key_cmp new.newest (key_of q) ≡ get key_cmp old.newest (key_of q) = put (key_of q) ∙ ap (λ (b : Bool). if b then Some told else get key_cmp old.newest (key_of q)) (same_keys (key_of p) (key_of q) ∙ other) in
             subst (λ (l : List ℕ). IsNewest old.window l (get key_cmp new.newest (key_of q))) (sym (times_other q frames (fragment_at time p) (same_swapped (key_of p) (key_of q) false other)))

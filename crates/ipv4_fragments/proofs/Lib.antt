@@ -3,6 +3,7 @@ pub mod Copies
 pub mod Fills
 pub mod GenerationSteps
 pub mod GroupNumbers
+pub mod GroupPlaces
 pub mod KeptGroups
 pub mod Pairs
 pub mod Sorted

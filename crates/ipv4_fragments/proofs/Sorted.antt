@@ -1,13 +1,15 @@
 -- One frame more.
 use Rattle.std.proofs.Common.{◌≡◌, ℕ, suc, ◌+◌, ◌*◌, List, [], ◌∷◌, ◌++◌, Option, refl, sym, ◌∙◌, ap, arith, length, append_assoc, subst, take, take_all, ◌≤◌}
-use Rattle.std.specs.Prelude.{option_to_list, map}
+use Rattle.std.specs.Prelude.{option_to_list, map, Bool, true, false, if◌then◌else◌}
+use Rattle.std.specs.List.{list_any}
 use Rattle.std.proofs.lemmas.List.{append-nil}
 use Rattle.capture_terms.specs.declared.datagram.Class.{Class}
 use Rattle.capture_terms.specs.declared.datagram.Kind.{Kind}
+use Rattle.capture_terms.specs.declared.datagram.Kind.TheVariants.{Fragment}
 use Rattle.capture_terms.specs.declared.datagram.Piece.{Piece}
 use Rattle.capture_terms.specs.declared.plan.Group.{Group}
 use Rattle.capture_terms.specs.declared.plan.Task.{Task}
-use Rattle.capture_terms.specs.Kept.{class_behind, kept_piece, classes_behind, classes_of, kept_among, kept_of}
+use Rattle.capture_terms.specs.Kept.{is_same_group, group_of, class_behind, kept_piece, classes_behind, classes_of, kept_among, kept_of}
 use Rattle.capture_terms.specs.Generations.{in_generations}
 use Rattle.capture_terms.specs.Plan.{task_at, tasks_from, tasks_of, groups_of, timed, kinds_of, IsPlan}
 use Rattle.capture_terms.specs.Capture.{contents_of}
@@ -16,6 +18,7 @@ use Rattle.capture_terms.specs.declared.capture.Frame.{Frame}
 use Rattle.capture_terms.specs.declared.plan.Plan.{Plan}
 use Rattle.ipv4_fragments.specs.declared.sorting.Sorting.{Sorting}
 use Rattle.ipv4_fragments.specs.Groups.{Follows}
+use Rattle.ipv4_fragments.specs.GroupNumbers.{AreNumbered, with_group_in}
 use Rattle.ipv4_fragments.specs.Generations.{Tells}
 use Rattle.ipv4_fragments.specs.Sorting.{AreSorted, Holds}
 
@@ -71,6 +74,15 @@ tasks_push groups kinds kind =
     ∙ tasks_push_at groups 0 (classes_of kinds) kinds (class_behind (kept_of kinds) kind) kind (length_classes kinds)
     ∙ ap (λ (n : ℕ). tasks_from groups 0 (classes_of kinds) kinds ++ option_to_list (task_at groups n (class_behind (kept_of kinds) kind) kind)) here
 
+-- the groups behind a frame are those before and at most one more
+pub with_extra : (groups : List Group) (kind : Kind) → (extra : List Group) × (with_group_in groups kind ≡ groups ++ extra)
+with_extra groups (Fragment piece) = by_case (list_any (is_same_group (group_of piece)) groups)
+  where
+    by_case : (b : Bool) → (extra : List Group) × ((if b then groups else groups ++ group_of piece ∷ []) ≡ groups ++ extra)
+    by_case true = ([], sym (append-nil groups))
+    by_case false = (group_of piece ∷ [], refl)
+with_extra groups kind = ([], sym (append-nil groups))
+
 pub sorted_more : (old new : Sorting) (kinds : List Kind) (kind : Kind) (number : ℕ) (class : Class) (task : Option Task) (extra : List Group)
     → number ≡ length kinds → AreSorted old kinds
     → class ≡ class_behind (kept_of kinds) kind
@@ -90,9 +102,9 @@ sorted_more old new kinds kind number class task extra here before is follows ke
       ∙ sym (tasks_push (new.groups.known ++ more) kinds kind);
 }
 
-pub holds_none : (sorting : Sorting) → sorting.classes.items ≡ [] → sorting.tasks.items ≡ [] → Follows sorting.groups [] → Tells sorting.generations [] → Holds sorting []
+pub holds_none : (sorting : Sorting) → sorting.classes.items ≡ [] → sorting.tasks.items ≡ [] → Follows sorting.groups [] → Tells sorting.generations [] → AreNumbered sorting.generations sorting.groups.known → Holds sorting []
 unfolding classes_of kept_of in_generations
-holds_none sorting classes tasks follows tells = record { tells = tells; sorted = record { classes = classes; groups = follows; tasks = λ more. tasks } }
+holds_none sorting classes tasks follows tells numbered = record { tells = tells; numbered = numbered; sorted = record { classes = classes; groups = follows; tasks = λ more. tasks } }
 
 pub plan_from : (bytes : List ℕ) (capture : Capture) (window : ℕ) (sorting : Sorting) (plan : Plan) (number : ℕ)
     → Holds sorting (map (timed bytes (contents_of capture)) (take number capture.frames.items)) → sorting.generations.window ≡ window * 1000000000 → length capture.frames.items ≤ number

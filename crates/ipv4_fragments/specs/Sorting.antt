@@ -7,6 +7,7 @@ use Rattle.capture_terms.specs.Kept.{classes_of, kept_of}
 use Rattle.capture_terms.specs.Plan.{tasks_from}
 use Rattle.ipv4_fragments.specs.declared.sorting.Sorting.{Sorting}
 use Rattle.ipv4_fragments.specs.Generations.{Tells}
+use Rattle.ipv4_fragments.specs.GroupNumbers.{AreNumbered}
 use Rattle.ipv4_fragments.specs.Groups.{Follows}
 
 -- frames of these kinds, each fragment in its generation, whatever groups follow
@@ -18,4 +19,5 @@ pub record AreSorted (sorting : Sorting) (kinds : List Kind) : Type 0 where
 -- these frames
 pub record Holds (sorting : Sorting) (frames : List Timed) : Type 0 where
   pub tells : Tells sorting.generations frames
+  pub numbered : AreNumbered sorting.generations sorting.groups.known
   pub sorted : AreSorted sorting (in_generations sorting.generations.window frames)

@@ -1,9 +1,10 @@
-ghost use Rattle.std.specs.Prelude.{◌≡◌, ℕ, ◌+◌, ◌-◌, ◌^◌, ◌<◌, ◌≤◌, List, [], ◌∷◌, ◌++◌, length, true, false, Some, MatchOption, IfOk, OnOk, vec_len};
+ghost use Rattle.std.specs.Prelude.{◌≡◌, ℕ, ◌^◌, ◌<◌, List, [], ◌∷◌, ◌++◌, length, true, not, Some, IfOk, OnOk, vec_len, if◌then◌else◌};
 ghost use Rattle.std.specs.List.{list_any};
 ghost use Rattle.capture_terms.specs.declared.datagram.Piece.{Piece};
 ghost use Rattle.capture_terms.specs.declared.plan.Group.{Group};
 ghost use Rattle.capture_terms.specs.Kept.{clash, end_of};
-ghost use Rattle.capture_terms.specs.Plan.{group_number};
+ghost use Rattle.capture_terms.specs.Plan.{group_number, with_group_of};
+ghost use Rattle.ipv4_fragments.specs.GroupNumbers.{HasPlace};
 ghost use Rattle.ipv4_fragments.specs.Groups.{Follows};
 
 use crate::group_list::GroupList;
@@ -29,36 +30,35 @@ impl Groups {
         }
     }
 
-    /// Keeps a further fragment and gives the number of its group, unless it clashes with one that
-    /// is kept.
-    pub fn keep(&mut self, alloc: Global, piece: &Piece) -> Result<Option<u32>, AllocError>
+    /// Keeps a further fragment, unless it clashes with one that is kept, and tells whether it did. The
+    /// number is that of its group, which is the next one where there is none of it yet.
+    pub fn keep(&mut self, alloc: Global, piece: &Piece, number: u32) -> Result<bool, AllocError>
         requires some { 0 < piece.now.length }
         requires short { end_of piece.now < 2 ^ 32 }
-        requires few { length self.old.known < 2 ^ 32 - 1 }
+        requires place { HasPlace self.old.known piece.now number }
         requires long { vec_len self.old.ranges ≡ length self.old.known }
         ensures long { OnOk result (vec_len self.new.ranges ≡ length self.new.known) }
-        ensures grows { length self.new.known ≤ length self.old.known + 1 }
-        ensures extends { OnOk result ((extra : List Group) × (self.new.known ≡ self.old.known ++ extra)) }
-        ensures kept { IfOk result (λ found. (kept : List Piece) → Follows self.old kept → MatchOption found ((list_any (clash piece.now) kept ≡ true) × Follows self.new kept) (λ number. (list_any (clash piece.now) kept ≡ false) × Follows self.new (kept ++ piece.now ∷ []))) }
-        ensures number { IfOk result (λ found. MatchOption found (Unit {0}) (λ number. (more : List Group) → group_number (self.new.known ++ more) piece.now ≡ Some number)) }
+        ensures groups { OnOk result (self.new.known ≡ with_group_of self.old.known piece.now) }
+        ensures kept { IfOk result (λ is_kept. (kept : List Piece) → Follows self.old kept → (is_kept ≡ not (list_any (clash piece.now) kept)) × Follows self.new (if is_kept then kept ++ piece.now ∷ [] else kept)) }
+        ensures number { IfOk result (λ is_kept. is_kept ≡ true → (more : List Group) → group_number (self.new.known ++ more) piece.now ≡ Some number) }
     {
         let group = Group {
             header: piece.header,
             id: piece.id,
             generation: piece.generation,
         };
-        let (number, is_new) = self.known.insert(group)?;
+        let is_new = self.known.insert(group, number)?;
         if is_new {
             let mut ranges = Ranges::new(alloc);
             ranges.keep(piece)?;
             self.ranges.push(ranges)?;
-            return Ok(Some(number));
+            return Ok(true);
         }
         if self.ranges[number as usize].clashes(piece) {
-            return Ok(None);
+            return Ok(false);
         }
         self.ranges[number as usize].keep(piece)?;
-        Ok(Some(number))
+        Ok(true)
     }
 
     /// The groups in the order of their numbers.

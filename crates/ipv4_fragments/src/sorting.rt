@@ -7,6 +7,7 @@ ghost use Rattle.capture_terms.specs.Generations.{Timed, kind_behind};
 ghost use Rattle.capture_terms.specs.Kept.{class_behind, kept_piece};
 ghost use Rattle.capture_terms.specs.Plan.{task_of, task_at, IsClassifiable, IsPlan};
 ghost use Rattle.ipv4_fragments.specs.Generations.{frame_at, Tells};
+ghost use Rattle.ipv4_fragments.specs.GroupNumbers.{AreNumbered, HasPlaceIn, with_group_in};
 ghost use Rattle.ipv4_fragments.specs.Groups.{Follows};
 ghost use Rattle.ipv4_fragments.specs.Header.{HasPlaces};
 ghost use Rattle.ipv4_fragments.specs.Sorting.{Holds};
@@ -40,39 +41,48 @@ fn make_task(frame: u32, group: Option<u32>, piece: &Piece) -> Task
     }
 }
 
-// What a further frame is that was captured at a time in nanoseconds, a fragment in its generation.
-fn in_generation(generations: &mut Generations, kind: &Kind, time: u64) -> Result<Kind, AllocError>
+// What a further frame is that was captured at a time in nanoseconds, a fragment in its generation; and
+// the number of the fragment's group, which is `next` where it is a new one.
+fn in_generation(
+    generations: &mut Generations,
+    kind: &Kind,
+    time: u64,
+    next: u32,
+) -> Result<(Kind, u32), AllocError>
     requires places { HasPlaces kind.now }
     requires tells { (frames : List Timed) × Tells generations.old frames × (length frames < 2 ^ 32 - 1) }
-    ensures places { IfOk result HasPlaces }
-    ensures kind { IfOk result (λ now. (frames : List Timed) → Tells generations.old frames → now ≡ kind_behind generations.old.window frames time kind.now) }
+    ensures places { IfOk result (λ found. HasPlaces found.0) }
+    ensures kind { IfOk result (λ found. (frames : List Timed) → Tells generations.old frames → found.0 ≡ kind_behind generations.old.window frames time kind.now) }
     ensures tells { OnOk result ((frames : List Timed) → Tells generations.old frames → Tells generations.new (frames ++ frame_at time kind.now ∷ [])) }
+    ensures group { IfOk result (λ found. (frames : List Timed) (groups : List Group) → Tells generations.old frames → AreNumbered generations.old groups → next ≡ length groups → HasPlaceIn groups found.0 found.1 × AreNumbered generations.new (with_group_in groups found.0)) }
     ensures window { generations.new.window ≡ generations.old.window }
 {
     let Kind::Fragment(piece) = kind else {
-        return Ok(*kind);
+        return Ok((*kind, 0));
     };
-    let generation = generations.tell(piece, time)?;
-    Ok(Kind::Fragment(Piece {
-        generation,
+    let newest = generations.tell(piece, time, next)?;
+    let piece = Piece {
+        generation: newest.generation,
         ..*piece
-    }))
+    };
+    Ok((Kind::Fragment(piece), newest.group))
 }
 
-// Tells the class of a further frame, and adds its task, if it has one.
+// Tells the class of a further frame, and adds its task, if it has one. The group is that of the
+// fragment that it carries, if it carries one.
 fn settle(
     alloc: Global,
     groups: &mut Groups,
     tasks: &mut Vec<Task>,
     number: u32,
+    group: u32,
     kind: &Kind,
 ) -> Result<Class, AllocError>
     requires places { HasPlaces kind.now }
-    requires few { length groups.old.known < 2 ^ 32 - 1 }
+    requires place { HasPlaceIn groups.old.known kind.now group }
     requires long { vec_len groups.old.ranges ≡ length groups.old.known }
     ensures long { OnOk result (vec_len groups.new.ranges ≡ length groups.new.known) }
-    ensures grows { length groups.new.known ≤ length groups.old.known + 1 }
-    ensures extends { OnOk result ((extra : List Group) × (groups.new.known ≡ groups.old.known ++ extra)) }
+    ensures groups { OnOk result (groups.new.known ≡ with_group_in groups.old.known kind.now) }
     ensures class { IfOk result (λ class. (kept : List Piece) → Follows groups.old kept → (class ≡ class_behind kept kind.now) × Follows groups.new (kept ++ option_to_list (kept_piece class kind.now))) }
     ensures task { IfOk result (λ class. (task : Option declared.Task) × (tasks.new.items ≡ tasks.old.items ++ option_to_list task) × ((more : List Group) → task ≡ task_at (groups.new.known ++ more) number class kind.now)) }
 {
@@ -84,13 +94,13 @@ fn settle(
             tasks.push(make_task(number, None, piece))?;
             Ok(Class::Whole)
         }
-        Kind::Fragment(piece) => match groups.keep(alloc, piece)? {
-            None => Ok(Class::Aside),
-            Some(group) => {
-                tasks.push(make_task(number, Some(group), piece))?;
-                Ok(Class::Kept)
+        Kind::Fragment(piece) => {
+            if !groups.keep(alloc, piece, group)? {
+                return Ok(Class::Aside);
             }
-        },
+            tasks.push(make_task(number, Some(group), piece))?;
+            Ok(Class::Kept)
+        }
     }
 }
 
@@ -124,14 +134,23 @@ impl Sorting {
         requires few { length self.old.groups.known < 2 ^ 32 - 1 }
         requires long { vec_len self.old.groups.ranges ≡ length self.old.groups.known }
         requires tells { (frames : List Timed) × Tells self.old.generations frames × (length frames < 2 ^ 32 - 1) }
+        requires numbered { AreNumbered self.old.generations self.old.groups.known }
         ensures long { OnOk result (vec_len self.new.groups.ranges ≡ length self.new.groups.known) }
-        ensures grows { length self.new.groups.known ≤ length self.old.groups.known + 1 }
+        ensures grows { OnOk result (length self.new.groups.known ≤ length self.old.groups.known + 1) }
         ensures window { self.new.generations.window ≡ self.old.generations.window }
         ensures holds { OnOk result ((frames : List Timed) → number ≡ length frames → Holds self.old frames → Holds self.new (frames ++ frame_at time kind.now ∷ [])) }
     {
         generation_law();
-        let kind = in_generation(&mut self.generations, kind, time)?;
-        let class = settle(alloc, &mut self.groups, &mut self.tasks, number, &kind)?;
+        let next = self.groups.known.len() as u32;
+        let (kind, group) = in_generation(&mut self.generations, kind, time, next)?;
+        let class = settle(
+            alloc,
+            &mut self.groups,
+            &mut self.tasks,
+            number,
+            group,
+            &kind,
+        )?;
         self.classes.push(class)?;
         Ok(())
     }

@@ -5,4 +5,9 @@ use Rattle.ipv4_fragments.proofs.sorting.in_generation.Goals as goal
 
 pub returns-clause-tells : goal.returns-clause-tells
 returns-clause-tells c = λ frames tells.
-    subst (λ (k : Kind). Tells c.tell.new.self (frames ++ frame_at c.args.time k ∷ [])) (sym c.in-Fragment.is) (c.in_ok-generation.ensures.tells frames tells)
+    subst (λ (k : Kind). Tells c.tell.new.self (frames ++ frame_at c.args.time k ∷ [])) (sym c.in-Fragment.is) (c.in_ok-newest.ensures.tells frames tells)
+
+pub returns-clause-group : goal.returns-clause-group
+returns-clause-group c = λ frames groups tells numbered long.
+    let told = c.in_ok-newest.ensures.group frames groups tells numbered long in
+    (told.place, told.numbered)

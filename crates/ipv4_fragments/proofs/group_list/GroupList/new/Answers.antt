@@ -1,7 +1,8 @@
 use Rattle.std.proofs.Common.{sym, subst}
-use Rattle.ipv4_fragments.specs.GroupList.{AreNumbered}
-use Rattle.ipv4_fragments.proofs.GroupNumbers.{numbered_none}
+use Rattle.std.specs.List.{IsDistinct}
+use Rattle.capture_terms.specs.Kept.{is_same_group}
+use Rattle.ipv4_fragments.proofs.GroupNumbers.{distinct_none}
 use Rattle.ipv4_fragments.proofs.group_list.GroupList.new.Goals as goal
 
 pub invariant_of-result : goal.invariant_of-result
-invariant_of-result c = subst (AreNumbered c.new.result) (sym c.new-2.ensures.items) (numbered_none c.new.result c.new.ensures.empty)
+invariant_of-result c = subst (IsDistinct is_same_group) (sym c.new.ensures.items) distinct_none
