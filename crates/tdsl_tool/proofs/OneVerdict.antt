@@ -1,11 +1,31 @@
 -- Two files come to one verdict only.
 use Rattle.std.proofs.Common.{◌≡◌, inl, inr, ℕ, List, sym, ◌∙◌, ap, arith}
 use Rattle.capture_terms.specs.Capture.{Answer, IsAnswer}
+use Rattle.std.proofs.lemmas.Bool.{cases_Bool}
+use Rattle.pcapng_blocks.specs.Answer.{is_pcapng, IsBlocksAnswer}
 use Rattle.rule_terms.specs.Laws.{TextHasOneReading}
-use Rattle.tdsl_tool.specs.Verdict.{RuleFile, rule_file_of, RuleFileIsOne, CaptureFile, file_of, IsCaptureFile, VerdictIsOne, verdict_of}
+use Rattle.tdsl_tool.specs.Verdict.{IsAnswerOf, SomeAnswerOf, RuleFile, rule_file_of, RuleFileIsOne, CaptureFile, file_of, IsCaptureFile, VerdictIsOne, verdict_of}
 
-abbrev pub AnswerIsOne : Type 0
-AnswerIsOne = (bytes : List ℕ) (one two : Answer) → IsAnswer bytes one → IsAnswer bytes two → one ≡ two
+abbrev IsOneOf : (List ℕ → Answer → Type 0) → Type 0
+IsOneOf Is = (bytes : List ℕ) (one two : Answer) → Is bytes one → Is bytes two → one ≡ two
+
+abbrev AnswerIsOne : Type 0
+AnswerIsOne = IsOneOf IsAnswerOf
+
+-- two right answers in the format that a file begins as are one
+answer_is_one : IsOneOf IsAnswer → IsOneOf IsBlocksAnswer → AnswerIsOne
+answer_is_one classic blocks bytes one two (inl p) (inl q) = blocks bytes one two p.1 q.1
+answer_is_one classic blocks bytes one two (inl p) (inr q) = absurd (cc (p.0, q.0))
+answer_is_one classic blocks bytes one two (inr p) (inl q) = absurd (cc (p.0, q.0))
+answer_is_one classic blocks bytes one two (inr p) (inr q) = classic bytes one two p.1 q.1
+
+-- each file has one
+pub some_of : ((bytes : List ℕ) → (answer : Answer) × IsAnswer bytes answer) → ((bytes : List ℕ) → (answer : Answer) × IsBlocksAnswer bytes answer) → SomeAnswerOf
+some_of classic blocks bytes =
+    elim (cases_Bool (is_pcapng bytes)) [
+      | inl is ↦ ((blocks bytes).0, inl (is, (blocks bytes).1))
+      | inr other ↦ ((classic bytes).0, inr (other, (classic bytes).1))
+    ]
 
 pub rule_file_is_one : TextHasOneReading → RuleFileIsOne
 rule_file_is_one law name text one two (inl p) (inl q) = p.1 ∙ sym q.1
@@ -19,8 +39,9 @@ one_capture_file law name bytes one two (inl p) (inr q) = absurd (omega (arith, 
 one_capture_file law name bytes one two (inr p) (inl q) = absurd (omega (arith, p.1.short, q.0))
 one_capture_file law name bytes one two (inr p) (inr q) = p.2 ∙ ap file_of (law bytes p.0 q.0 p.1.right q.1.right) ∙ sym q.2
 
-pub verdict_is_one : TextHasOneReading → AnswerIsOne → VerdictIsOne
-verdict_is_one rules_law answer_law names settings text bytes one two p q =
+pub verdict_is_one : TextHasOneReading → IsOneOf IsAnswer → IsOneOf IsBlocksAnswer → VerdictIsOne
+verdict_is_one rules_law classic blocks names settings text bytes one two p q =
+    let answer_law : AnswerIsOne = answer_is_one classic blocks in
     let rules = rule_file_is_one rules_law names.rules text p.rules q.rules p.rules_is q.rules_is in
     let capture = one_capture_file answer_law names.capture bytes p.capture q.capture p.capture_is q.capture_is in
     p.comes_to ∙ ap (λ (r : RuleFile). verdict_of settings r bytes p.capture) rules ∙ ap (λ (c : CaptureFile). verdict_of settings q.rules bytes c) capture ∙ sym q.comes_to

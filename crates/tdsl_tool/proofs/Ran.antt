@@ -1,20 +1,16 @@
 -- What holds of a run, from how it ended.
 use Rattle.std.proofs.Common.{◌≡◌, ◌≢◌, ◌⊎◌, inl, inr, ℕ, ◌<◌, List, length, Some, refl, sym, ◌∙◌, ap, subst, arith}
 use Rattle.std.proofs.lemmas.Bool.{cases_lt}
-use Rattle.capture_terms.specs.Capture.{Answer, IsAnswer}
 use Rattle.rule_terms.specs.Rule.{Rule}
 use Rattle.rule_terms.specs.RuleText as rule_text
 use Rattle.command_words.specs.Words.{Names, inspect, asked_by}
 use Rattle.command_words.specs.declared.command.Settings.{Settings}
 use Rattle.report.specs.Fault.{Cause, no_command, unread, unwritten, bad_line, bad_capture, long_file, many_frames, many_rules, many_findings, no_memory, status_of}
-use Rattle.tdsl_tool.specs.Verdict.{max_file, reports, stops, RuleFile, rules_are, rules_refused, HasBadLine, HasManyRules, IsRuleFile, RuleFileIsOne, CaptureFile, IsCaptureFile, VerdictIsOne, verdict_status}
+use Rattle.tdsl_tool.specs.Verdict.{max_file, reports, stops, RuleFile, rules_are, rules_refused, HasBadLine, HasManyRules, IsRuleFile, RuleFileIsOne, CaptureFile, IsCaptureFile, SomeAnswerOf, VerdictIsOne, verdict_status}
 use Rattle.tdsl_tool.specs.Run.{Reading, Writing, HasFailed, IsFaulty, Run, reading, EndsBy, Exactly, HasStatus, Decides, Inspected, Ran, IsOfRules, IfRulesTold, StopsAtRules, StopsAtCapture, StopsAt, IsReported, IsCutOff, Ending, finished, faulted, ending_status, EndsSo, Tells}
 
-abbrev pub SomeAnswer : Type 0
-SomeAnswer = (bytes : List ℕ) → (answer : Answer) × IsAnswer bytes answer
-
 -- each capture file is something
-some_capture_file : SomeAnswer → (name bytes : List ℕ) → (file : CaptureFile) × IsCaptureFile name bytes file
+some_capture_file : SomeAnswerOf → (name bytes : List ℕ) → (file : CaptureFile) × IsCaptureFile name bytes file
 some_capture_file law name bytes =
     elim (cases_lt max_file (length bytes)) [
       | inl long ↦ (_, inl (long, refl))
@@ -89,7 +85,7 @@ module _ (of : Reading) (out : Writing) where
   not_usage (faulted no_command) ends = λ is. elim ends.0 [ inl at ↦ absurd at | inr at ↦ absurd at ]
   not_usage (faulted cause) ends = λ is. omega arith
 
-module _ (one : VerdictIsOne) (some : SomeAnswer) (of : Reading) (out : Writing) where
+module _ (one : VerdictIsOne) (some : SomeAnswerOf) (of : Reading) (out : Writing) where
   module _ (text bytes : List ℕ) (told : of.rules.told ≡ Some text) (told' : of.capture.told ≡ Some bytes) where
     -- a rule file that is refused decides, whatever the capture file is
     by_rules : (cause : Cause) → IsRuleFile of.rules.name text (rules_refused cause) → Decides of text bytes (stops cause)
@@ -222,7 +218,7 @@ quiet_cause sink finished tells is = tells
 quiet_cause sink (faulted cause) tells is = absurd (omega (arith, some_status cause))
 
 -- the run of an inspection
-inspected : VerdictIsOne → RuleFileIsOne → SomeAnswer → (run : Run) (of : Reading) (ending : Ending) → run.status ≡ ending_status ending → EndsSo of run.out ending → Tells run.faults ending → Inspected run of
+inspected : VerdictIsOne → RuleFileIsOne → SomeAnswerOf → (run : Run) (of : Reading) (ending : Ending) → run.status ≡ ending_status ending → EndsSo of run.out ending → Tells run.faults ending → Inspected run of
 inspected one one_file some run of ending is ends tells = record {
   report = λ zero. (report_cause of run.out ending ends (sym is ∙ zero), quiet_cause run.faults ending tells (sym is ∙ zero));
   read = λ two. read_cause of run.out ending ends (sym is ∙ two);
@@ -236,7 +232,7 @@ inspected one one_file some run of ending is ends tells = record {
 }
 
 -- a run whose words ask for an inspection
-pub ran_inspection : VerdictIsOne → RuleFileIsOne → SomeAnswer → (words : List (List ℕ)) (run : Run) (names : Names) (settings : Settings) (ending : Ending) → asked_by words ≡ inspect names settings → run.status ≡ ending_status ending → EndsSo (reading run.content run.before run.after names settings) run.out ending → Tells run.faults ending → Ran words run
+pub ran_inspection : VerdictIsOne → RuleFileIsOne → SomeAnswerOf → (words : List (List ℕ)) (run : Run) (names : Names) (settings : Settings) (ending : Ending) → asked_by words ≡ inspect names settings → run.status ≡ ending_status ending → EndsSo (reading run.content run.before run.after names settings) run.out ending → Tells run.faults ending → Ran words run
 ran_inspection one one_file some words run names settings ending asked is ends tells =
     let here = reading run.content run.before run.after names settings in
     let not_one : run.status ≢ 1 = λ status. not_usage here run.out ending ends (sym is ∙ status) in

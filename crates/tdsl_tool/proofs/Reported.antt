@@ -2,7 +2,7 @@
 use Rattle.std.proofs.Common.{◌≡◌, inr, ℕ, ◌<◌, ◌≤◌, List, length, refl, sym, ◌∙◌, ap, arith}
 use Rattle.std.specs.Prelude.{true, false, Bool, nat_lt, if◌then◌else◌}
 use Rattle.std.proofs.lemmas.Bool.Decides.{nat_tests}
-use Rattle.capture_terms.specs.Capture.{Contents, contents_of, captured, IsCapture}
+use Rattle.capture_terms.specs.Capture.{Contents, contents_of, captured}
 use Rattle.capture_terms.specs.Datagram.{incomplete}
 use Rattle.capture_terms.specs.Plan.{kinds_of, tasks_of, groups_of, IsPlan}
 use Rattle.capture_terms.specs.Kept.{classes_of}
@@ -17,7 +17,7 @@ use Rattle.report.specs.Report.{text_of, report_lines}
 use Rattle.inspection_terms.specs.Findings.{all_findings, findings_of_capture}
 use Rattle.tdsl_tool.specs.Inspection.{report_of}
 use Rattle.report.specs.Fault.{many_findings}
-use Rattle.tdsl_tool.specs.Verdict.{max_file, verdict_under, stops, reports, file_of, IsVerdictUnder}
+use Rattle.tdsl_tool.specs.Verdict.{max_file, IsAnswerOf, verdict_under, stops, reports, file_of, IsVerdictUnder}
 
 -- the verdict of a count of findings
 under_few : (settings : Settings) (rules : List Rule) (bytes : List ℕ) (contents : Contents) → length (findings_of_capture rules bytes settings.window contents) ≤ settings.findings → reports (report_of rules bytes settings.window contents) ≡ verdict_under settings rules bytes contents
@@ -42,7 +42,7 @@ reported : (rules : List Rule) (bytes : List ℕ) (window : ℕ) (capture : Capt
 unfolding report_of
 reported rules bytes window capture = refl
 
-module _ (settings : Settings) (rules : List Rule) (name bytes : List ℕ) (capture : Capture) (plan : Plan) (short : length bytes ≤ max_file) (says : IsCapture bytes capture) (is : IsPlan bytes capture settings.window plan) where
+module _ (settings : Settings) (rules : List Rule) (name bytes : List ℕ) (capture : Capture) (plan : Plan) (short : length bytes ≤ max_file) (says : IsAnswerOf bytes (captured (contents_of capture))) (is : IsPlan bytes capture settings.window plan) where
   -- a report of the plan's findings is that of the file
   pub report_is : (open_groups : ℕ) (findings text : List ℕ) → findings ≡ all_findings rules bytes plan.tasks.items → length findings ≤ settings.findings → open_groups ≡ incomplete plan.tasks.items plan.groups.items
       → text ≡ text_from rules (contents_of capture) plan.classes.items plan.groups.items open_groups findings → IsVerdictUnder settings rules name bytes (reports text)

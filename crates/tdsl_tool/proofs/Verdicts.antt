@@ -2,19 +2,19 @@
 use Rattle.std.proofs.Common.{◌≡◌, inl, inr, ℕ, ◌≤◌, List, length, Option, Some, refl, sym, subst}
 use Rattle.std.specs.Prelude.{IfSome}
 use Rattle.byte_ends.specs.Told.{IfTold}
-use Rattle.capture_terms.specs.Capture.{Answer, IsAnswer}
+use Rattle.capture_terms.specs.Capture.{Answer}
 use Rattle.rule_terms.specs.Rule.{Rule}
 use Rattle.rule_terms.specs.RuleText as rule_text
 use Rattle.report.specs.Fault.{Cause, no_command, unread, unwritten, bad_line, bad_capture, long_file, many_frames, many_rules, many_findings, no_memory}
 use Rattle.command_words.specs.declared.command.Settings.{Settings}
-use Rattle.tdsl_tool.specs.Verdict.{max_file, Verdict, stops, IsVerdictUnder, rules_are, AreRules, capture_refused, file_of}
+use Rattle.tdsl_tool.specs.Verdict.{max_file, IsAnswerOf, Verdict, stops, IsVerdictUnder, rules_are, AreRules, capture_refused, file_of}
 use Rattle.tdsl_tool.specs.Run.{Source, HasFailed, Reading, IfRulesTold, ComesTo, StopsReading, StopsAtRules, StopsAtCapture, StopsUnder}
 
 -- a capture file whose answer is a refusal comes to it
-pub refused_under : (settings : Settings) (rules : List Rule) (name bytes : List ℕ) (told : Option Answer) (answer : Answer) (cause : Cause) → told ≡ Some answer → file_of answer ≡ capture_refused cause → length bytes ≤ max_file → IfSome told (IsAnswer bytes) → IsVerdictUnder settings rules name bytes (stops cause)
+pub refused_under : (settings : Settings) (rules : List Rule) (name bytes : List ℕ) (told : Option Answer) (answer : Answer) (cause : Cause) → told ≡ Some answer → file_of answer ≡ capture_refused cause → length bytes ≤ max_file → IfSome told (IsAnswerOf bytes) → IsVerdictUnder settings rules name bytes (stops cause)
 refused_under settings rules name bytes told answer cause same is short right = record {
   capture = capture_refused cause;
-  capture_is = inr (answer, record { short = short; right = subst (λ (o : Option Answer). IfSome o (IsAnswer bytes)) same right }, sym is);
+  capture_is = inr (answer, record { short = short; right = subst (λ (o : Option Answer). IfSome o (IsAnswerOf bytes)) same right }, sym is);
   comes_to = refl;
 }
 

@@ -1,6 +1,7 @@
 -- What a rule file and a capture file come to, as their bytes tell: a report, or the cause of a fault.
-use Rattle.std.specs.Prelude.{◌≡◌, ℕ, ◌<◌, ◌≤◌, ◌⊎◌, nat_lt, List, length, if◌then◌else◌}
+use Rattle.std.specs.Prelude.{◌≡◌, ℕ, ◌<◌, ◌≤◌, ◌⊎◌, true, false, nat_lt, List, length, if◌then◌else◌}
 use Rattle.capture_terms.specs.Capture.{Answer, captured, refused, too_many_frames, IsAnswer, Contents}
+use Rattle.pcapng_blocks.specs.Answer.{is_pcapng, IsBlocksAnswer}
 use Rattle.rule_terms.specs.Rule.{Rule}
 use Rattle.rule_terms.specs.RuleText as rule_text
 use Rattle.inspection_terms.specs.Findings.{findings_of_capture}
@@ -60,10 +61,15 @@ file_of (captured contents) = capture_is contents
 file_of (refused fault) = capture_refused (bad_capture fault)
 file_of too_many_frames = capture_refused many_frames
 
--- the answer about these bytes is right, and they are not too many
+-- the answer about these bytes is right in the format that they begin as
+abbrev pub IsAnswerOf : List ℕ → Answer → Type 0
+IsAnswerOf bytes answer =
+    ((is_pcapng bytes ≡ true) × IsBlocksAnswer bytes answer) ⊎ ((is_pcapng bytes ≡ false) × IsAnswer bytes answer)
+
+-- it is, and they are not too many
 pub record IsRead (bytes : List ℕ) (answer : Answer) : Type 0 where
   pub short : length bytes ≤ max_file
-  pub right : IsAnswer bytes answer
+  pub right : IsAnswerOf bytes answer
 
 -- what a capture file of this name and these bytes is
 abbrev pub IsCaptureFile : List ℕ → List ℕ → CaptureFile → Type 0
@@ -112,6 +118,10 @@ pub record IsVerdictUnder (settings : Settings) (rules : List Rule) (name bytes 
   pub capture : CaptureFile
   pub capture_is : IsCaptureFile name bytes capture
   pub comes_to : verdict ≡ verdict_at settings rules bytes capture
+
+-- each capture file has a right answer
+abbrev pub SomeAnswerOf : Type 0
+SomeAnswerOf = (bytes : List ℕ) → (answer : Answer) × IsAnswerOf bytes answer
 
 -- a rule file is one thing only
 abbrev pub RuleFileIsOne : Type 0

@@ -1,8 +1,9 @@
 // What holds of verdicts, whatever the files are. Each function does nothing when it runs: its
 // contract is a law about definitions, for a caller's proof.
-ghost use Rattle.tdsl_tool.specs.Verdict.{RuleFileIsOne, VerdictIsOne};
+ghost use Rattle.tdsl_tool.specs.Verdict.{RuleFileIsOne, SomeAnswerOf, VerdictIsOne};
 
-use capture_terms::one_answer;
+use capture_terms::{one_answer, some_answer};
+use pcapng_blocks::{one_answer_law, some_answer_law};
 use rule_terms::text_has_one_reading;
 
 /// A rule file is one thing only, and two files come to one verdict only. So the causes of different
@@ -12,5 +13,14 @@ pub fn one_verdict()
     ensures files { VerdictIsOne }
 {
     one_answer();
+    one_answer_law();
     text_has_one_reading();
+}
+
+/// Each capture file has a right answer, in the format that it begins as.
+pub fn some_answer_of()
+    ensures { SomeAnswerOf }
+{
+    some_answer();
+    some_answer_law();
 }

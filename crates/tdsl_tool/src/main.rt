@@ -3,6 +3,8 @@
 #![tactic(auto)]
 
 #[cfg(test)]
+mod blocks_tests;
+#[cfg(test)]
 mod failing_tests;
 mod findings;
 #[cfg(test)]

@@ -7,9 +7,8 @@ ghost use Rattle.tdsl_tool.specs.Verdict.{reports, max_file, AreRules};
 ghost use Rattle.tdsl_tool.specs.Run.{source, reading, writing, ComesTo, StopsReading, StopsAtRules, StopsAt, EndsSo, ending_of, ending_status, Tells, TellsLine, Ran};
 
 use crate::inspection::report_under;
-use crate::laws::one_verdict;
+use crate::laws::{one_verdict, some_answer_of};
 use byte_ends::{Files, ReadEnd, Sink, read_all, write_all};
-use capture_terms::some_answer;
 use command_words::{Command, FileNames, Settings, command_of};
 use report::{Fault, write_fault};
 use rule_matcher::{Rules, RulesEnd, rules};
@@ -156,7 +155,7 @@ pub fn run_with<Rt, F: Files, O: Sink, E: Sink>(
     // The runtime serves commands that start threads; this one starts none.
     let _ = rt;
     one_verdict();
-    some_answer();
+    some_answer_of();
     match command_of(words) {
         Command::Unknown => tell(faults, &Fault::Usage),
         Command::Inspect { names, settings } => {

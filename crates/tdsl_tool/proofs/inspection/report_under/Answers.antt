@@ -4,22 +4,19 @@ use Rattle.tdsl_tool.proofs.Reported.{report_is, too_many_is}
 use Rattle.tdsl_tool.proofs.inspection.report_under.Goals as goal
 
 pub returns-in-Err-clause-stops : goal.returns-in-Err-clause-stops
-returns-in-Err-clause-stops c = λ name. c.refused.ensures c.args.settings c.args.rules.now name c.args.bytes.now c.requires c.in-Err.ensures.found
+returns-in-Err-clause-stops c = λ name. c.in-Err.ensures.stops c.args.settings c.args.rules.now name
 
 pub find_all-requires-clause-few : goal.find_all-requires-clause-few
 find_all-requires-clause-few c =
-    let those = c.in-Ok.ensures in
-    few_tasks c.args.bytes.now c.in-Ok.capture _ c.in-Ok-classify.plan (record { few = those.few; within = those.within; link = those.link }) c.in-Ok-classify.ensures
+    few_tasks c.args.bytes.now c.in-Ok.capture _ c.in-Ok-classify.plan c.in-Ok.ensures.fine c.in-Ok-classify.ensures
 
 pub find_all-requires-clause-few_groups : goal.find_all-requires-clause-few_groups
 find_all-requires-clause-few_groups c =
-    let those = c.in-Ok.ensures in
-    few_groups c.args.bytes.now c.in-Ok.capture _ c.in-Ok-classify.plan (record { few = those.few; within = those.within; link = those.link }) c.in-Ok-classify.ensures
+    few_groups c.args.bytes.now c.in-Ok.capture _ c.in-Ok-classify.plan c.in-Ok.ensures.fine c.in-Ok-classify.ensures
 
 pub find_all-requires-clause-grouped : goal.find_all-requires-clause-grouped
 find_all-requires-clause-grouped c =
-    let those = c.in-Ok.ensures in
-    grouped c.args.bytes.now c.in-Ok.capture _ c.in-Ok-classify.plan (record { few = those.few; within = those.within; link = those.link }) c.in-Ok-classify.ensures
+    grouped c.args.bytes.now c.in-Ok.capture _ c.in-Ok-classify.plan c.in-Ok.ensures.fine c.in-Ok-classify.ensures
 
 pub returns-in-Err-TooMany-clause-stops : goal.returns-in-Err-TooMany-clause-stops
 returns-in-Err-TooMany-clause-stops c = λ name.

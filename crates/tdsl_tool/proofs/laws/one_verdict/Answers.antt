@@ -5,4 +5,4 @@ pub returns-clause-rules : goal.returns-clause-rules
 returns-clause-rules c = rule_file_is_one c.text_has_one_reading.ensures
 
 pub returns-clause-files : goal.returns-clause-files
-returns-clause-files c = verdict_is_one c.text_has_one_reading.ensures c.one_answer.ensures
+returns-clause-files c = verdict_is_one c.text_has_one_reading.ensures c.one_answer.ensures c.one_answer_law.ensures
