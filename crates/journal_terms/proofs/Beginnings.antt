@@ -22,7 +22,7 @@ not_below : (text : List ℕ) (m n : ℕ) → IsFirstBadLine text m → IsFirstB
 not_below text m n b c l = let r = take_shorter m (n - 1) (lines_of text) (omega arith) in
     b.bad (omega arith) (begins_shorter (take m (lines_of text)) r.0 (subst BeginsLegal r.1 c.before))
 
-legal_lines : (j : Journal) → IsLegalJournal j → lines_of (journal_text j) ≡ journal_lines j ++ [] ∷ []
+pub legal_lines : (j : Journal) → IsLegalJournal j → lines_of (journal_text j) ≡ journal_lines j ++ [] ∷ []
 legal_lines j l = cut_lines (journal_lines j) (lines_lack j l.writable)
 
 takes_begin : (j : Journal) → IsLegalJournal j → (n : ℕ) → n ≤ length (journal_lines j) → BeginsLegal (take n (journal_lines j ++ [] ∷ []))

@@ -202,7 +202,7 @@ map_more : {A : Type 0} (f : A → List ℕ) (xs : List A) (y : A) → map f (xs
 map_more f [] y = refl
 map_more f (x ∷ xs) y = ap (λ (z : List (List ℕ)). f x ∷ z) (map_more f xs y)
 
-whole_lines : (j : Journal) → journal_lines j ≡ begun_lines j ++ end_line ∷ []
+pub whole_lines : (j : Journal) → journal_lines j ≡ begun_lines j ++ end_line ∷ []
 whole_lines j = ap (λ (z : List (List ℕ)). title j.sights ∷ sizes_text j.tasks j.groups j.findings ∷ z) (sym (append_assoc (map record_text j.records) (map sight_text (sights_in j.sights)) (end_line ∷ [])))
 
 record_on : (j : Journal) (line : List ℕ) → GoesOnByRecord j line → BeginsLegal (begun_lines j ++ line ∷ [])

@@ -12,3 +12,5 @@ pub mod Histories
 pub mod Grown
 pub mod Suits
 pub mod LegalRows
+pub mod Naming
+pub mod Follows

@@ -6,3 +6,4 @@ pub mod Legal
 pub mod Strict
 pub mod Growing
 pub mod LegalRows
+pub mod Naming

@@ -9,6 +9,7 @@ ghost use Rattle.journal_terms.specs.Worked.{WorkedJournals, WrongJournals};
 ghost use Rattle.journal_terms.specs.Legal.{FirstBadLines};
 ghost use Rattle.journal_terms.specs.Growing.{BeginningsAreLegal, HistoriesGrow, JournalsGrow, WhatSuits};
 ghost use Rattle.journal_terms.specs.LegalRows.{LegalJournals};
+ghost use Rattle.journal_terms.specs.Naming.{LinesAreNamed, SightsFollow};
 ghost use Rattle.journal_terms.specs.Strict.{LinesAreRead};
 
 use serial_terms::laws::{calls_and_layouts_law, worked_histories_law};
@@ -68,6 +69,16 @@ pub fn journals_grow_law()
 /// Which further record, and which further sight, leaves a legal journal legal, each by itself; a strict reading reads them all.
 pub fn what_suits_law()
     ensures { WhatSuits }
+{}
+
+/// Which line of a text is its first bad one, from what the lines before it begin.
+pub fn lines_are_named_law()
+    ensures { LinesAreNamed }
+{}
+
+/// A further sight suits by its place and caller against the last one's, by its caller's sights, and by the records up to its place.
+pub fn sights_follow_law()
+    ensures { SightsFollow }
 {}
 
 /// A legal run may have written the journal of a worked one; journals that are wrong in one point each, none.
