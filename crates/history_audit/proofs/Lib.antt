@@ -1,2 +1,10 @@
 pub mod Cuts
 pub mod Exactly
+pub mod Stated
+pub mod Backs
+pub mod Openings
+pub mod Running
+pub mod Again
+pub mod Sized
+pub mod Growth
+pub mod Judging

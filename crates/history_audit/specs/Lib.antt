@@ -1,2 +1,6 @@
 pub mod Heads
 pub mod SightHeads
+pub mod Structures
+pub mod Counts
+pub mod Ledgers
+pub mod Verdicts

@@ -2,11 +2,19 @@
 #![tactic(auto)]
 
 mod calls;
+mod counts;
+mod ledger;
 mod lines;
+mod ranges;
 mod sights;
+mod structures;
 #[cfg(test)]
 mod tests;
+mod verdict;
+#[cfg(test)]
+mod verdict_tests;
 mod words;
 
 pub use lines::{Sizes, opening, record};
 pub use sights::sight;
+pub use verdict::{Outcome, Verdict, judge_records};

@@ -27,11 +27,11 @@ pub struct Sizes {
 
 // A record without its calls.
 #[derive(Clone, Copy, Debug)]
-struct RecordHead {
-    place: u64,
-    writer: bool,
-    caller: u32,
-    index: u64,
+pub(crate) struct RecordHead {
+    pub(crate) place: u64,
+    pub(crate) writer: bool,
+    pub(crate) caller: u32,
+    pub(crate) index: u64,
 }
 
 // The sizes that an opening line names.

@@ -1,0 +1,8 @@
+use Rattle.std.proofs.Common.{◌≡◌, ◌∙◌, ℕ, ◌-◌, Option, List, [], ◌∷◌, ◌++◌, length, take, refl, ap, sym, Some, None, arith, rules, deque_len, vec_len}
+use Rattle.history_audit.proofs.Stated.{queue_put, log_put, items_of_queue, items_of_log}
+use Rattle.history_audit.proofs.Backs.{counted}
+use Rattle.history_audit.specs.Structures.{state_of}
+use Rattle.history_audit.proofs.structures.Structures.give.Goals as goal
+
+pub overflow_add-count : goal.overflow_add-count
+overflow_add-count c = omega (arith, counted (state_of c.args.self.now) c.requires c.args.item)

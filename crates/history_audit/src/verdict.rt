@@ -1,0 +1,104 @@
+// The verdict on a journal.
+ghost use Rattle.std.specs.Prelude.{◌≡◌, ◌↔◌, ◌∷◌, ◌++◌, ◌<◌, ◌+◌, ◌^◌, ℕ, List, length, IfOk, IfSome, MatchOption, Some, None};
+ghost use Rattle.std.specs.Option.{option_map};
+ghost use Rattle.journal_terms.specs.Growing.{without_sights};
+ghost use Rattle.journal_terms.specs.Legal.{AreSizes, IsLegalJournal, lines_of};
+ghost use Rattle.journal_terms.specs.Reading.{cut_at};
+ghost use Rattle.journal_terms.specs.Text.{Journal, journal_lines, sights_in, sizes_text, title};
+ghost use Rattle.history_audit.specs.Heads.{sizes_of};
+ghost use Rattle.history_audit.specs.Verdicts.{IsOutcome, IsVerdict};
+
+use crate::ledger::Ledger;
+use crate::lines::{Sizes, record};
+use crate::words::cut;
+use journal_terms::{
+    beginnings_are_legal_law, histories_grow_law, journals_grow_law, lines_are_named_law,
+    what_suits_law,
+};
+use std::alloc::{AllocError, Global};
+
+/// What an audit says of a text.
+#[derive(Clone, Copy, Debug, PartialEq, Eq)]
+pub enum Verdict {
+    /// Some legal run may have written it. It has so many records and sights.
+    Yes { records: u64, sights: u64 },
+    /// No legal run wrote it, and this is the first line, counted from 1, up to which it begins no legal journal. Where the text ends too
+    /// early, it is the line that isn't ended, be it missing.
+    No { line: u64 },
+}
+
+/// What the lines behind an opening come to, as far as they are records.
+#[derive(Clone, Copy, Debug)]
+pub enum Outcome<'t> {
+    /// The text is judged.
+    Judged(Verdict),
+    /// So many records are legal, and `rest` begins with a line of this number that is no record's, in a journal that may have sights.
+    Sights {
+        rest: &'t [u8],
+        line: u64,
+        records: u64,
+    },
+}
+
+// The verdict behind the line `end`, whose number is given.
+pub(crate) fn ended(behind: &[u8], number: u64, records: u64, sights: u64) -> Verdict
+    requires { number < 2 ^ 63 + 8 }
+    ensures { (text : List ℕ) (j : Journal) → IsLegalJournal j → lines_of text ≡ journal_lines j ++ cut_at 10 behind.now → number ≡ length (journal_lines j) → records ≡ length j.records → sights ≡ length (sights_in j.sights) → IsVerdict text result }
+{
+    journals_grow_law();
+    lines_are_named_law();
+    if behind.is_empty() {
+        Verdict::Yes { records, sights }
+    } else {
+        Verdict::No { line: number + 1 }
+    }
+}
+
+/// Judges the lines behind the title and the opening of a text, of which the first has the number 3, as far as they are records. `second`
+/// says that the title is that of the second version, whose sights aren't judged here. The verdict is of the whole text.
+pub fn judge_records(
+    alloc: Global,
+    second: bool,
+    sizes: Sizes,
+    lines: &[u8],
+) -> Result<Outcome<'_>, AllocError>
+    requires sizes { AreSizes sizes.tasks sizes.groups sizes.findings }
+    requires short { length lines.now < 2 ^ 63 }
+    ensures { IfOk result (λ o. (text : List ℕ) → lines_of text ≡ title (without_sights second) ∷ sizes_text sizes.tasks sizes.groups sizes.findings ∷ cut_at 10 lines.now → IsOutcome text second sizes lines.now o) }
+{
+    beginnings_are_legal_law();
+    histories_grow_law();
+    journals_grow_law();
+    lines_are_named_law();
+    what_suits_law();
+    let mut ledger = Ledger::opened(alloc, sizes)?;
+    let mut rest = lines;
+    let mut number = 3;
+    'lines: loop {
+        let (line, behind) = cut(b'\n', rest);
+        let behind = match behind {
+            None => return Ok(Outcome::Judged(Verdict::No { line: number })),
+            Some(behind) => behind,
+        };
+        if line == b"end".as_slice() {
+            return Ok(Outcome::Judged(ended(behind, number, ledger.records(), 0)));
+        }
+        let record = match record(alloc, line)? {
+            None if second => {
+                return Ok(Outcome::Sights {
+                    rest,
+                    line: number,
+                    records: ledger.records(),
+                });
+            }
+            None => return Ok(Outcome::Judged(Verdict::No { line: number })),
+            Some(record) => record,
+        };
+        let admitted = ledger.admit(alloc, &record)?;
+        if !admitted {
+            return Ok(Outcome::Judged(Verdict::No { line: number }));
+        }
+        rest = behind;
+        number += 1;
+    }
+}
