@@ -163,8 +163,8 @@ module _ {M D : Type 0} (table : TableState M) (version : ℕ) where
         begun = (rw (ap (λ (s : PassState M D). s.seen) same) a.begun.0, rw view a.begun.1);
         observed = λ i lt. rw view (a.observed i lt);
         written = a.written;
-            listed = rw (view, entries) a.listed;
-            holds = λ c. rw (view, entries) (a.holds c);
+        listed = rw (view, entries) a.listed;
+        holds = λ c. rw (view, entries) (a.holds c);
         in_table = rw entries a.in_table;
         sized = a.sized;
         met = λ c r w. rw view (a.met c r w);
@@ -186,8 +186,8 @@ module _ {M D : Type 0} (table : TableState M) (version : ℕ) where
         begun = (rw (ap (λ (s : PassState M D). s.seen) is) a.begun.0, rw (ap (λ (v : View M D). v.known) view) (omega (arith, a.begun.1)));
         observed = λ i lt. seen_grows p.view q.view version _ _ _ (rw view (drawn_grows p.view d later)) (λ h. rw kept h) (a.observed i lt);
         written = a.written;
-            listed = kept ∙ a.listed;
-            holds = λ c. rw kept (a.holds c);
+        listed = kept ∙ a.listed;
+        holds = λ c. rw kept (a.holds c);
         in_table = a.in_table;
         sized = a.sized;
         met = λ c r w. rw kept (a.met c r w);

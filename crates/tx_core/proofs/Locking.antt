@@ -105,7 +105,7 @@ module _ {M D : Type 0} (table : TableState M) (version : ℕ) where
         begun = (rw (ap (λ (s : PassState M D). s.seen) t.is ∙ ap (λ (s : PassState M D). s.seen) same) a.begun.0, rw (t.known ∙ ap (λ (v : View M D). v.known) view) a.begun.1);
         observed = observed;
         written = a.written;
-            listed = kept ∙ ap (insert_by cell_key (cell, u)) a.listed ∙ sym (held_of_more held.entries (cell, u)) ∙ ap held_of (sym all);
+        listed = kept ∙ ap (insert_by cell_key (cell, u)) a.listed ∙ sym (held_of_more held.entries (cell, u)) ∙ ap held_of (sym all);
         holds = λ c. ap (λ h. has c (cells_of h)) kept ∙ has_insert c cell u p.view.held ∙ ap (λ b. if eqb cell c then true else b) (a.holds c) ∙ sym (word_at-add held.entries cell u c) ∙ ap (λ es. is_some (word_at es c)) (sym all);
         in_table = rw (all, map_push (λ (e : ℕ × ℕ). e.0) held.entries (cell, u)) (All-push (λ c. c < length table.opening) (keys_of held.entries) cell a.in_table there);
         sized = sized;

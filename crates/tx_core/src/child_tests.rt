@@ -48,7 +48,10 @@ fn a_merged_child_commits_with_its_parent(rt: HostRuntime) -> Result<(), Fail> {
         panic!(rt; "the attempt commits");
     };
     assert_eq!(rt; place, 1);
-    assert_eq!(rt; three_cells(&table.close(pass)), ((12, 1), (21, 1), (30, 0)));
+    assert_eq!(rt;
+        three_cells(&table.close(pass)),
+        ((12, 1), (21, 1), (30, 0))
+    );
     Ok(())
 }
 

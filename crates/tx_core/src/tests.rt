@@ -9,9 +9,7 @@ use std::alloc::Global;
 use std::test::Fail;
 
 // Commits an attempt that writes, unless others stop it.
-pub(crate) fn commit(
-    mut tx: Tx<'_, Untold>,
-) -> Result<(u64, Pass<Untold>), (Stop, Pass<Untold>)>
+pub(crate) fn commit(mut tx: Tx<'_, Untold>) -> Result<(u64, Pass<Untold>), (Stop, Pass<Untold>)>
     requires callable { MayCommit tx }
     requires resolved { NothingWaits tx }
     requires some_write { 0 < length tx.writes }

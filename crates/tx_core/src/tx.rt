@@ -1,7 +1,6 @@
 //! One attempt.
 ghost use Rattle.std.specs.Prelude.{◌≡◌, ℕ, ◌+◌, ◌-◌, ◌^◌, ◌<◌, ◌≤◌, ◌≢◌, ◌↔◌, List, [], ◌∷◌, ◌++◌, true, false, length, slice_index, slice_set, Some, None, IsTrue, IsOk, IfOk, IfErr, OnOk, OnErr};
 ghost use Rattle.std.specs.Option.{option_or};
-
 ghost use Rattle.attempt_lists.specs.Cells.{put};
 ghost use Rattle.attempt_lists.specs.Levels.{merged};
 
@@ -387,12 +386,7 @@ impl<'a, M: Meaning> Tx<'a, M> {
 }
 
 // Writes a cell at the level of the open child, or else at that of the attempt.
-fn put_above(
-    writes: &mut WriteSet,
-    in_child: bool,
-    cell: u32,
-    value: u64,
-) -> Result<(), AllocError>
+fn put_above(writes: &mut WriteSet, in_child: bool, cell: u32, value: u64) -> Result<(), AllocError>
     requires level { in_child ≡ false → writes.old.child ≡ [] }
     ensures merged { OnOk result (merged writes.new ≡ put (merged writes.old) cell value) }
     ensures parent { in_child ≡ true → writes.new.parent ≡ writes.old.parent }

@@ -26,12 +26,27 @@ store_all-requires-clause-drawn g c =
 pub store_all-requires-clause-ascending : goal.store_all-requires-clause-ascending
 store_all-requires-clause-ascending g c = rw c.into_parent.ensures.entries c.into_parent.ensures.ascending
 
+pub store_all-requires-clause-some : goal.store_all-requires-clause-some
+store_all-requires-clause-some g c =
+    let checked = c.requires.checked in
+    let drawn = ap (λ (a : Attempt _ _). a.pass.view.stage) c.self.view_is ∙ checked.1.0 in
+    let writes : c.self.inside.writes.parent ≡ c.args.self.writes = sym (drawn_alone _ _ _ _ _ c.self.inside.writes _ _ _ checked.0 c.self.invariant.2 c.self.invariant.0.nothing_drawn drawn) ∙ ap (λ (a : Attempt _ _). a.writes) c.self.view_is in
+    rw (c.into_parent.ensures.entries, writes) c.requires.some_write
+
 pub store_all-requires-clause-held : goal.store_all-requires-clause-held
 store_all-requires-clause-held g c =
     let checked = c.requires.checked in
     let drawn = ap (λ (a : Attempt _ _). a.pass.view.stage) c.self.view_is ∙ checked.1.0 in
     let writes : c.self.inside.writes.parent ≡ c.args.self.writes = sym (drawn_alone _ _ _ _ _ c.self.inside.writes _ _ _ checked.0 c.self.invariant.2 c.self.invariant.0.nothing_drawn drawn) ∙ ap (λ (a : Attempt _ _). a.writes) c.self.view_is in
     rw (c.into_parent.ensures.entries, writes, ap (λ (a : Attempt _ _). a.pass) c.self.view_is) (λ d h. c.requires.all_held d (writes_some _ d h))
+
+-- the record has what was observed, written and noted
+pub returns-clause-record : goal.returns-clause-record
+returns-clause-record g c =
+    let checked = c.requires.checked in
+    let drawn = ap (λ (a : Attempt _ _). a.pass.view.stage) c.self.view_is ∙ checked.1.0 in
+    let writes : c.self.inside.writes.parent ≡ c.args.self.writes = sym (drawn_alone _ _ _ _ _ c.self.inside.writes _ _ _ checked.0 c.self.invariant.2 c.self.invariant.0.nothing_drawn drawn) ∙ ap (λ (a : Attempt _ _). a.writes) c.self.view_is in
+    rw (sym writes, ap (λ (a : Attempt _ _). a.observations) (sym c.self.view_is), ap (λ (a : Attempt _ _). a.notes) (sym c.self.view_is), ap (λ (a : Attempt _ _). a.pass) (sym c.self.view_is), ← c.into_parent.ensures.entries, ← c.into_observations.ensures.observations) (c.give_back_all.ensures.gives.books ∙ c.store_all.ensures.stores.books)
 
 pub returns-clause-grows : goal.returns-clause-grows
 returns-clause-grows g c = rw (ap (λ (a : Attempt _ _). a.pass) (sym c.self.view_is)) (grows_trans _ _ _ c.store_all.ensures.stores.grows c.give_back_all.ensures.gives.grows)
