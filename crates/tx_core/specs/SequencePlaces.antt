@@ -34,8 +34,8 @@ module _ {M D : Type 0} where
   abbrev pub placed_as : Attempt M D → Attempt M D → Attempt M D
   placed_as a t = record a { pass = t.pass; observations = t.observations; versions = t.versions; writes = t.writes; additions = t.additions; spare = t.spare; committing = t.committing }
 
-  same_but_placed : (a d : Attempt M D) → d.table ≡ a.table → d.state ≡ a.state → d.version ≡ a.version → d.notes ≡ a.notes → d ≡ placed_as a d
-  same_but_placed a d table state version notes = rw (← table, ← state, ← version, ← notes) refl
+  same_but_placed : (a d : Attempt M D) → d.table ≡ a.table → d.state ≡ a.state → d.version ≡ a.version → d.notes ≡ a.notes → d.mark ≡ a.mark → d ≡ placed_as a d
+  same_but_placed a d table state version notes mark = rw (← table, ← state, ← version, ← notes, ← mark) refl
 
   -- an addition that is taken touches nothing
   steps_took : (b m : Attempt M D) → m ≡ record b { additions = m.additions } → StepsAt (λ c. ⊥) 0 b m
@@ -171,7 +171,8 @@ module _ {M D : Type 0} where
               (ap (λ (t : Attempt M D). t.table) same ∙ ap (λ (t : Attempt M D). t.table) took ∙ ap (λ (t : Attempt M D). t.table) p.same)
               (placed.state ∙ ap (λ (t : Attempt M D). t.state) took ∙ ap (λ (t : Attempt M D). t.state) p.same)
               (ap (λ (t : Attempt M D). t.version) same ∙ ap (λ (t : Attempt M D). t.version) took ∙ ap (λ (t : Attempt M D). t.version) p.same)
-              (ap (λ (t : Attempt M D). t.notes) same ∙ ap (λ (t : Attempt M D). t.notes) took ∙ ap (λ (t : Attempt M D). t.notes) p.same);
+              (ap (λ (t : Attempt M D). t.notes) same ∙ ap (λ (t : Attempt M D). t.notes) took ∙ ap (λ (t : Attempt M D). t.notes) p.same)
+              (ap (λ (t : Attempt M D). t.mark) same ∙ ap (λ (t : Attempt M D). t.mark) took ∙ ap (λ (t : Attempt M D). t.mark) p.same);
           does =
               let upto : StepsAt (IsAddition s word (length (p.taken ++ v ∷ []))) (3 * length p.taken) a b = steps_wider _ _ _ _ a b wider (omega arith) p.does in
               let then : StepsAt (IsAddition s word (length (p.taken ++ v ∷ []))) 3 b d = steps_trans _ 0 3 b m d (steps_wider _ _ 0 0 b m (λ c none. absurd none) (omega arith) takes) (steps_wider _ _ 3 3 m d here (omega arith) does) in

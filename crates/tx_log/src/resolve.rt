@@ -2,8 +2,9 @@
 ghost use Rattle.std.specs.Prelude.{◌≡◌, ℕ, ◌+◌, ◌-◌, ◌*◌, ◌^◌, ◌<◌, ◌≤◌, [], length, All, Some, IsOk, IfErr, OnOk};
 ghost use Rattle.cell_table.specs.declared.view.Stage.TheVariants.{Open};
 ghost use Rattle.cell_table.specs.Pass.{IsSole, IsHeld};
+ghost use Rattle.tx_core.specs.declared.stop.TxState.TheVariants.{Running};
 ghost use Rattle.tx_core.specs.Additions.{HasSpare};
-ghost use Rattle.tx_core.specs.Calls.{IsOpen, StepsAt, UsesAtMost, KeepsOthers, known, waiting};
+ghost use Rattle.tx_core.specs.Calls.{StepsAt, UsesAtMost, KeepsOthers, known, waiting};
 ghost use Rattle.tx_core.specs.Sequences.{IsAddition, IsEndOrAddition, IsPlaced, IsSettled, IsSettledBy, IsStoppedAt, IsRefused, IsFullEnd, Placing, Settles, Exceeds, next_of};
 ghost use Rattle.tx_log.specs.Log.{MakesOf, sequence_of};
 
@@ -20,7 +21,7 @@ impl LogPart {
     ///
     /// After a stop the state is `Stopped`; after `Full` it's as before.
     pub fn resolve<M: Meaning>(&self, tx: &mut Tx<'_, M>) -> Result<(), ResolveEnd>
-        requires open_now { IsOpen tx.old.state }
+        requires running { tx.old.state ≡ Running }
         requires undrawn { tx.old.pass.view.stage ≡ Open }
         requires part { self.now.end + self.now.capacity < length tx.old.table.opening }
         requires small { All (λ v. v < 2 ^ 64 - 1) (waiting self.now.part tx.old) }
@@ -62,7 +63,7 @@ impl LogPart {
 
     // Holds the cell of the entry at a place, and writes the value there.
     fn place_one<M: Meaning>(&self, tx: &mut Tx<'_, M>, value: u64, place: u64) -> Result<(), Stop>
-        requires open_now { IsOpen tx.old.state }
+        requires running { tx.old.state ≡ Running }
         requires undrawn { tx.old.pass.view.stage ≡ Open }
         requires part { self.now.end + self.now.capacity < length tx.old.table.opening }
         requires place { place < self.now.capacity }
@@ -89,7 +90,7 @@ impl LogPart {
     // Places all additions that wait behind the entries, of which there are so many, and then writes the length. The end is
     // held.
     fn place_all<M: Meaning>(&self, tx: &mut Tx<'_, M>, shared: u64) -> Result<(), Stop>
-        requires open_now { IsOpen tx.old.state }
+        requires running { tx.old.state ≡ Running }
         requires undrawn { tx.old.pass.view.stage ≡ Open }
         requires part { self.now.end + self.now.capacity < length tx.old.table.opening }
         requires held { IsHeld tx.old.pass self.now.end }

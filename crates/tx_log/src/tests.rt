@@ -1,7 +1,7 @@
 ghost use Rattle.std.specs.Prelude.{◌≡◌, ◌≢◌, ℕ, ◌+◌, ◌-◌, ◌^◌, ◌<◌, [], length, All};
 ghost use Rattle.cell_table.specs.Steps.{IsIdle};
 ghost use Rattle.cell_table.specs.Pass.{IsPassOf};
-ghost use Rattle.tx_core.specs.Calls.{MayCall, waiting};
+ghost use Rattle.tx_core.specs.Calls.{MayCommit, waiting};
 
 use crate::LogPart;
 use cell_table::{CellTable, Pass};
@@ -18,7 +18,7 @@ const TWO: LogPart = LogPart {
 
 // Commits an attempt that adds to this log alone, which has room for it.
 fn commit(rt: &impl Abort, mut tx: Tx<'_, Untold>) -> Pass<Untold>
-    requires callable { MayCall tx }
+    requires callable { MayCommit tx }
     requires part { 2 < length tx.table.opening }
     requires small { All (λ v. v < 2 ^ 64 - 1) (waiting 0 tx) }
     requires some { waiting 0 tx ≢ [] }
@@ -55,7 +55,7 @@ fn begin_adding<'a>(
     requires draw { 0 < pass.view.draws }
     requires value { value < 2 ^ 64 - 1 }
     ensures table { result.table ≡ table.now }
-    ensures callable { MayCall result }
+    ensures callable { MayCommit result }
     ensures small { All (λ v. v < 2 ^ 64 - 1) (waiting 0 result) }
     ensures some { waiting 0 result ≢ [] }
     ensures alone { (part : ℕ) → part ≢ 0 → waiting part result ≡ [] }
@@ -70,7 +70,7 @@ fn begin_adding<'a>(
 
 // Expects that the additions that wait make the log too long, and that the attempt goes on.
 fn expect_full(rt: &impl Abort, tx: &mut Tx<'_, Untold>, there: u64, adding: u64)
-    requires callable { MayCall tx.old }
+    requires callable { MayCommit tx.old }
     requires part { 2 < length tx.old.table.opening }
     requires small { All (λ v. v < 2 ^ 64 - 1) (waiting 0 tx.old) }
     ensures table { tx.new.table ≡ tx.old.table }
@@ -103,7 +103,7 @@ fn an_attempt_sees_what_it_adds(rt: HostRuntime) -> Result<(), Fail> {
         panic!(rt; "the next attempt begins");
     };
     assert_eq!(rt; TWO.len(&mut tx), Ok(1));
-    let _ = tx.abort();
+    tx.abort();
     Ok(())
 }
 
@@ -125,7 +125,7 @@ fn additions_above_the_capacity_are_refused_at_the_commit(rt: HostRuntime) -> Re
         panic!(rt; "the next attempt begins");
     };
     assert_eq!(rt; TWO.len(&mut tx), Ok(1));
-    let _ = tx.abort();
+    tx.abort();
     Ok(())
 }
 

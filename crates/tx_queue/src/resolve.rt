@@ -3,8 +3,9 @@ ghost use Rattle.std.specs.Prelude.{◌≡◌, ◌+◌, ◌*◌, ◌^◌, ◌<�
 ghost use Rattle.cell_table.specs.declared.view.Stage.TheVariants.{Open};
 ghost use Rattle.cell_table.specs.Pass.{IsSole, IsHeld};
 ghost use Rattle.store_layout.specs.States.{length_in};
+ghost use Rattle.tx_core.specs.declared.stop.TxState.TheVariants.{Running};
 ghost use Rattle.tx_core.specs.Additions.{HasSpare};
-ghost use Rattle.tx_core.specs.Calls.{IsOpen, StepsAt, UsesAtMost, KeepsOthers, known, waiting};
+ghost use Rattle.tx_core.specs.Calls.{StepsAt, UsesAtMost, KeepsOthers, known, waiting};
 ghost use Rattle.tx_core.specs.Sequences.{IsAddition, IsEndOrAddition, IsPlaced, IsSettled, IsSettledBy, IsStoppedAt, IsRefused, IsFullEnd, Placing, Settles, Exceeds, next_of};
 ghost use Rattle.tx_queue.specs.Queue.{MakesOf, sequence_of};
 
@@ -21,7 +22,7 @@ impl QueuePart {
     ///
     /// After a stop the state is `Stopped`; after `Full` it's as before.
     pub fn resolve<M: Meaning>(&self, tx: &mut Tx<'_, M>) -> Result<(), ResolveEnd>
-        requires open_now { IsOpen tx.old.state }
+        requires running { tx.old.state ≡ Running }
         requires undrawn { tx.old.pass.view.stage ≡ Open }
         requires part { self.now.end + self.now.capacity < length tx.old.table.opening }
         requires spare { HasSpare tx.old.spare (2 * length (waiting self.now.part tx.old)) }
@@ -65,7 +66,7 @@ impl QueuePart {
 
     // Holds the cell of the next item by this word of the end, and writes the value there.
     fn place_one<M: Meaning>(&self, tx: &mut Tx<'_, M>, value: u64, end: u64) -> Result<(), Stop>
-        requires open_now { IsOpen tx.old.state }
+        requires running { tx.old.state ≡ Running }
         requires undrawn { tx.old.pass.view.stage ≡ Open }
         requires part { self.now.end + self.now.capacity < length tx.old.table.opening }
         requires room { 0 < self.now.capacity }
@@ -102,7 +103,7 @@ impl QueuePart {
 
     // Places all additions that wait behind the items, and then writes the end, which is held and has this word.
     fn place_all<M: Meaning>(&self, tx: &mut Tx<'_, M>, end: u64) -> Result<(), Stop>
-        requires open_now { IsOpen tx.old.state }
+        requires running { tx.old.state ≡ Running }
         requires undrawn { tx.old.pass.view.stage ≡ Open }
         requires part { self.now.end + self.now.capacity < length tx.old.table.opening }
         requires held { IsHeld tx.old.pass self.now.end }

@@ -1,7 +1,7 @@
 ghost use Rattle.std.specs.Prelude.{◌≡◌, ◌≢◌, ℕ, ◌-◌, ◌<◌, [], length};
 ghost use Rattle.cell_table.specs.Steps.{IsIdle};
 ghost use Rattle.cell_table.specs.Pass.{IsPassOf};
-ghost use Rattle.tx_core.specs.Calls.{MayCall, waiting};
+ghost use Rattle.tx_core.specs.Calls.{MayCommit, waiting};
 
 use crate::QueuePart;
 use cell_table::{CellTable, Pass};
@@ -20,7 +20,7 @@ const FROM_ONE: u64 = 1 << 32;
 
 // Commits an attempt that adds to this queue alone, which has room for it.
 fn commit(rt: &impl Abort, mut tx: Tx<'_, Untold>) -> Pass<Untold>
-    requires callable { MayCall tx }
+    requires callable { MayCommit tx }
     requires part { 2 < length tx.table.opening }
     requires some { waiting 0 tx ≢ [] }
     requires alone { (part : ℕ) → part ≢ 0 → waiting part tx ≡ [] }
@@ -45,7 +45,7 @@ fn commit(rt: &impl Abort, mut tx: Tx<'_, Untold>) -> Pass<Untold>
 
 // Expects that the additions that wait make the queue too long, and that the attempt goes on.
 fn expect_full(rt: &impl Abort, tx: &mut Tx<'_, Untold>, there: u64, adding: u64)
-    requires callable { MayCall tx.old }
+    requires callable { MayCommit tx.old }
     requires part { 2 < length tx.old.table.opening }
 {
     tx.provided_law();
@@ -61,10 +61,10 @@ fn expect_full(rt: &impl Abort, tx: &mut Tx<'_, Untold>, there: u64, adding: u64
 
 // Takes this value, the first one, out of the queue.
 fn take(rt: &impl Abort, tx: &mut Tx<'_, Untold>, value: u64)
-    requires callable { MayCall tx.old }
+    requires callable { MayCommit tx.old }
     requires part { 2 < length tx.old.table.opening }
     ensures table { tx.new.table ≡ tx.old.table }
-    ensures callable { MayCall tx.new }
+    ensures callable { MayCommit tx.new }
     ensures draws { tx.new.pass.view.draws ≡ tx.old.pass.view.draws }
     ensures others { (part : ℕ) → part ≢ 0 → waiting part tx.new ≡ waiting part tx.old }
 {
@@ -116,7 +116,7 @@ fn an_attempt_takes_what_it_adds_and_then_none(rt: HostRuntime) -> Result<(), Fa
     assert_eq!(rt; TWO.dequeue(&mut tx), Ok(Some(5)));
     assert_eq!(rt; TWO.dequeue(&mut tx), Ok(None));
     assert_eq!(rt; TWO.len(&mut tx), Ok(0));
-    let _ = tx.abort();
+    tx.abort();
     Ok(())
 }
 
@@ -130,7 +130,7 @@ fn additions_above_the_capacity_are_refused_at_the_commit(rt: HostRuntime) -> Re
     TWO.enqueue(&mut tx, 5).expect(&rt, "a value is added");
     TWO.enqueue(&mut tx, 6).expect(&rt, "another is added");
     expect_full(&rt, &mut tx, 1, 2);
-    let _ = tx.abort();
+    tx.abort();
     Ok(())
 }
 
