@@ -53,7 +53,8 @@ put_in_cells value (x ∷ xs) there zero = with_at_same (λ d. get_or (x ∷ xs)
 put_in_cells value (x ∷ xs) there (suc c) = with_at_other (λ d. get_or (x ∷ xs) d 0) 0 value (suc c) (λ e. omega arith)
 
 -- such a record leaves the first cell within the limit
-pub keeps_limit : (limit : ℕ) (cells : List ℕ) (os ws : List (ℕ × ℕ)) (dones : List Done) → IsPlainLawful limit cells → AllHold cells os → IsPlainRecord limit os ws dones → IsPlainLawful limit (after cells ws)
+pub keeps_limit : (limit : ℕ) (cells : List ℕ) (os ws : List (ℕ × ℕ)) (dones : List Done)
+    → IsPlainLawful limit cells → AllHold cells os → IsPlainRecord limit os ws dones → IsPlainLawful limit (after cells ws)
 keeps_limit limit cells os ws dones l h e =
     let r = e.1 cells l.0 h in let put = e.0 in
     let is : dones ≡ outside (CellPut 0 put.0) Nothing ∷ [] = sym (by_own_keys dones) ∙ put.2 in
@@ -72,6 +73,8 @@ put_is_record limit value l = (
 )
 
 -- the same of lists that are these
-pub is_put : (limit value : ℕ) (os ws : List (ℕ × ℕ)) (dones : List Done) → value ≤ limit → os ≡ [] → ws ≡ (0, value) ∷ [] → dones ≡ outside (CellPut 0 value) Nothing ∷ [] → IsPlainRecord limit os ws dones
+pub is_put : (limit value : ℕ) (os ws : List (ℕ × ℕ)) (dones : List Done)
+    → value ≤ limit → os ≡ [] → ws ≡ (0, value) ∷ [] → dones ≡ outside (CellPut 0 value) Nothing ∷ [] → IsPlainRecord limit os ws dones
 is_put limit value os ws dones l o w d = subst (λ (z : List (ℕ × ℕ)). IsPlainRecord limit z ws dones) (sym o)
-    (subst (λ (z : List (ℕ × ℕ)). IsPlainRecord limit [] z dones) (sym w) (subst (λ (z : List Done). IsPlainRecord limit [] ((0, value) ∷ []) z) (sym d) (put_is_record limit value l)))
+    (subst (λ (z : List (ℕ × ℕ)). IsPlainRecord limit [] z dones) (sym w)
+    (subst (λ (z : List Done). IsPlainRecord limit [] ((0, value) ∷ []) z) (sym d) (put_is_record limit value l)))

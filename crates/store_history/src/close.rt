@@ -10,7 +10,8 @@ use crate::laws::{keyed_history_law, last_history_law};
 use crate::meaning::StateMeaning;
 use cell_table::{CellTable, Contents, Pass};
 
-/// The end of the table, by the pass that has every caller number. The records of its books are one legal history, from the state of the opening to that of the values that the cells are left with.
+/// The end of the table, by the pass that has every caller number. The records of its books are one legal history, from the state of the opening to that
+/// of the values that the cells are left with.
 pub fn close_with_history<M: StateMeaning>(table: CellTable<M>, pass: Pass<M>) -> Contents
     requires of { IsPassOf table pass }
     requires sole { IsSole pass }

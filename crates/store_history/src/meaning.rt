@@ -28,5 +28,6 @@ pub trait StateMeaning: Meaning + Lawful {
     ghost lawful_means: { (m : Self) (cells : List ℕ) → Self.lawful m cells → IsLawful (formed m) (state_of m) (Self.lawful_state m) cells };
 
     /// A record that is explained is an allowed one, and its calls run wherever its observations hold.
-    ghost explains_means: { (m : Self) (observations writes : List (ℕ × ℕ)) (dones : List Self.Done) → Self.explains m observations writes dones → Self.allowed m (by_key (named dones)) × Explains (formed m) (state_of m) observations writes (by_name (named dones)) };
+    ghost explains_means: { (m : Self) (observations writes : List (ℕ × ℕ)) (dones : List Self.Done) → Self.explains m observations writes dones
+        → Self.allowed m (by_key (named dones)) × Explains (formed m) (state_of m) observations writes (by_name (named dones)) };
 }
