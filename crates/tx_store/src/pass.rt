@@ -8,6 +8,7 @@ use std::marker::Model;
 use store_meaning::{Purpose, StoreMeaning};
 
 /// The caller numbers under which its owner transacts, with their books and the positions of keys that they claimed.
+#[derive(Drop)]
 pub struct StorePass<P: Purpose> {
     pub(crate) pass: Pass<StoreMeaning<P>>,
     pub(crate) keys: KeyPass<P::Keys>,

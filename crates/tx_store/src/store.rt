@@ -18,6 +18,7 @@ use store_layout::{CellPlan, LayoutEnd, opening_words};
 use store_meaning::{Purpose, StoreMeaning};
 
 /// Structures in the cells of one table, and the positions of their maps' keys. Threads may share it.
+#[derive(Drop)]
 pub struct Store<P: Purpose> {
     pub(crate) table: CellTable<StoreMeaning<P>>,
     pub(crate) directory: Directory<P::Keys>,
@@ -35,7 +36,7 @@ impl<P: Purpose> Model for Store<P> {
 }
 
 impl<P: Purpose> Store<P> {
-    ghost use Rattle.store_meaning.specs.declared.meaning.StoreMeaning.{StoreMeaning as Means};
+    ghost use Rattle.tx_store.specs.Stores.{IsPassOfStore};
 
     /// A store of the layout for a purpose, and the pass of all its callers, of which there are 1 to 4,096. Pools open with
     /// their items, all else is empty or 0, and that state is lawful.
@@ -55,6 +56,7 @@ impl<P: Purpose> Store<P> {
         ensures told { IfTooLarge result (λ n. n ≡ min (cells_of (shape_of layout.now)) (2 ^ 64 - 1)) }
         ensures store { IfOk result (λ t. (t.0.table.meaning ≡ record { purpose = purpose; plan = shape_of layout.now }) × (t.0.table.opening ≡ opening_words layout.now) × (t.0.table.callers ≡ callers)) }
         ensures opening { state_in (shape_of layout.now) (opening_words layout.now) ≡ opening_of layout.now }
+        ensures of { IfOk result (λ t. IsPassOfStore t.0 t.1) }
         ensures pass { IfOk result (λ t. (t.1.pass ≡ opened t.0.table) × (t.1.keys ≡ record { directory = t.0.directory; callers = callers; room = callers; claims = []; trail = [] })) }
     {
         opening_stands_law();

@@ -43,6 +43,7 @@ impl<'a, P: Purpose> StoreTx<'a, P> {
     ghost use Rattle.serial_terms.specs.declared.call.Reply.TheVariants.{Nothing, Value, Flag};
     ghost use Rattle.store_layout.specs.Shapes.{the_cell, the_pool};
     ghost use Rattle.store_parts.specs.Parts.{noted};
+    ghost use Rattle.tx_store.specs.Attempts.{Tells};
     ghost use Rattle.tx_store.specs.Stores.{IsPassOfStore};
     ghost use Rattle.tx_store.specs.Calls.{in_child, done_in, IsCalled};
 
@@ -83,6 +84,14 @@ impl<'a, P: Purpose> StoreTx<'a, P> {
         ensures { result ≡ self.now.attempt.version }
     {
         self.tx.version()
+    }
+
+    /// What the notes of an attempt tell at any moment: its calls run, with these replies, from the state of any well-formed cells
+    /// in which all holds that it observed. While it is open they run to the state that it has.
+    pub fn tells_law(&self)
+        ensures { Tells P.Keys.passes self.now.store.table.meaning.plan self.now.attempt }
+    {
+        self.tx.limits_law();
     }
 
     /// Ends the attempt without a record. The pass is idle, has the books that it had, and has seen the attempt's version.
