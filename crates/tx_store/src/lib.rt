@@ -10,6 +10,8 @@ mod parts;
 mod pass;
 mod pools;
 mod store;
+#[cfg(test)]
+mod tests;
 mod tx;
 
 pub use pass::StorePass;
