@@ -1,10 +1,7 @@
 -- Whether the state before some changes is the one after them.
-use Rattle.std.proofs.Common.{◌≡◌, ◌≢◌, ◌↔◌, ℕ, zero, suc, ◌+◌, ◌-◌, ◌<◌, ◌≤◌, ◌⊎◌, inl, inr, Bool, true, false, IsTrue, IsFalse, eqb, cond, List, [], ◌∷◌, ◌++◌, length, take, drop, get_or, map, refl, sym, ap, ◌∙◌, subst, Option, Some, None, arith}
+use Rattle.std.proofs.Common.{◌≡◌, ◌↔◌, ℕ, ◌-◌, ◌⊎◌, inl, inr, Bool, true, false, IsTrue, IsFalse, List, [], ◌∷◌, ◌++◌, length, take, drop, map, refl, sym, ap, ◌∙◌, subst, Option, arith}
 use Rattle.std.proofs.Common.{append_assoc, append-nil, length-append}
 use Rattle.std.proofs.lemmas.List.{take-append-drop}
-use Rattle.std.specs.Map.{count_at}
-use Rattle.std.specs.HashMap.{get}
-use Rattle.std.specs.Prelude.{nat_eq}
 use mathlib.Core.Logic.{dite}
 use mathlib.Core.Path.{fun_ext}
 use native.Mathlib.Decide.{ℕ_discrete}
@@ -13,13 +10,12 @@ use Rattle.serial_terms.specs.Counts.{with_at}
 use Rattle.serial_terms.specs.Entries.{Entry, Each}
 use Rattle.serial_terms.specs.Facts.{with_at_same, with_at_other}
 use Rattle.serial_terms.specs.Histories.{Runs, IsLegalRun}
-use Rattle.serial_terms.specs.Serial.{State, Sequence, Pool, IsWithinCapacity}
+use Rattle.serial_terms.specs.Serial.{State, IsWithinCapacity}
 use Rattle.serial_terms.specs.Sights.{Seen, EndsAs}
 use Rattle.history_audit.specs.declared.structures.Structures.{Structures}
 use Rattle.history_audit.specs.declared.structures.Change.{Change}
 use Rattle.history_audit.specs.declared.structures.Change.TheVariants.{Same, Key, Enqueued, Dequeued, Item, Appended, Cell}
-use Rattle.history_audit.specs.Structures.{state_of, is_same_key, alone, no_sequence, no_pool, back, undone, now_at, Has, IsAs, IsSameAgain, HasCommitted, HasSeen}
-use Rattle.history_audit.proofs.Stated.{queue_at, log_at, pool_at, cell_at}
+use Rattle.history_audit.specs.Structures.{state_of, alone, no_sequence, no_pool, undone, now_at, Has, IsAs, IsSameAgain, HasCommitted}
 
 abbrev HaveNow : State → State → List Change → Type 0
 HaveNow s u cs = Each (Has s) (map (now_at u) cs)

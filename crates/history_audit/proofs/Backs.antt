@@ -1,13 +1,13 @@
 -- Each change taken back.
-use Rattle.std.proofs.Common.{◌≡◌, ℕ, zero, suc, ◌+◌, ◌-◌, ◌<◌, ◌≤◌, Bool, true, false, eqb, cond, List, [], ◌∷◌, ◌++◌, length, take, refl, sym, ap, ◌∙◌, subst, Option, Some, None, arith, length-append}
+use Rattle.std.proofs.Common.{◌≡◌, ℕ, suc, ◌+◌, ◌-◌, ◌<◌, ◌≤◌, Bool, true, false, eqb, cond, List, [], ◌∷◌, ◌++◌, length, take, refl, sym, ap, ◌∙◌, subst, Option, arith, length-append}
 use Rattle.std.specs.Prelude.{nat_lt}
 use Rattle.std.proofs.lemmas.Bool.{false_from_ne_true, ltb-true, lt-ltb}
 use Rattle.serial_terms.specs.Counts.{times}
 use Rattle.serial_terms.specs.Counts.{with_at}
 use Rattle.serial_terms.specs.Facts.{with_at_same, with_at_own, with_at_twice}
 use Rattle.serial_terms.specs.declared.call.Reply.{Reply}
-use Rattle.serial_terms.specs.declared.call.Reply.TheVariants.{Nothing, Absent, Value, Flag}
-use Rattle.serial_terms.specs.Serial.{State, Sequence, Pool, first, rest, put_map, put_queue, put_pool, put_log, put_cell, IsTakenFrom, after_take, after_give}
+use Rattle.serial_terms.specs.declared.call.Reply.TheVariants.{Value, Flag}
+use Rattle.serial_terms.specs.Serial.{State, Sequence, Pool, first, rest, put_map, put_queue, put_log, put_cell, IsTakenFrom, after_take, after_give}
 use Rattle.history_audit.specs.Structures.{but_last, put_item, IsListed}
 
 pub but_last_pushed : (xs : List ℕ) (v : ℕ) → but_last (xs ++ v ∷ []) ≡ xs

@@ -1,17 +1,14 @@
 -- A record behind others, as it is decided.
-use Rattle.std.proofs.Common.{◌≡◌, ◌≢◌, ◌↔◌, ℕ, zero, suc, ◌+◌, ◌<◌, ◌≤◌, ◌⊎◌, inl, inr, Bool, true, false, IsTrue, IsFalse, eqb, cond, List, [], ◌∷◌, ◌++◌, length, refl, sym, ap, ◌∙◌, subst, Option, Some, None, arith, length-append}
-use Rattle.std.proofs.lemmas.Bool.{cond-true, cond-false, eqb-true, eq-eqb, ne_eqb, true_from_ne_false, false_from_ne_true}
+use Rattle.std.proofs.Common.{◌≡◌, ◌↔◌, ℕ, ◌+◌, ◌<◌, inl, inr, Bool, true, false, IsTrue, IsFalse, eqb, cond, List, [], ◌∷◌, ◌++◌, length, refl, sym, ap, ◌∙◌, subst, Option, Some, None, arith}
+use Rattle.std.proofs.lemmas.Bool.{cond-true, cond-false, eqb-true}
 use Rattle.std.specs.Option.{option_map}
 use Rattle.serial_terms.specs.declared.call.Done.{Done}
 use Rattle.serial_terms.specs.Entries.{Entry, Precedes, by_caller}
-use Rattle.serial_terms.specs.Histories.{IsLegalRun}
 use Rattle.std.specs.Prelude.{min}
 use Rattle.serial_terms.specs.Counts.{numbers_from}
 use Rattle.serial_terms.specs.RunLayout.{layout_by}
-use Rattle.serial_terms.specs.Serial.{State}
 use Rattle.serial_terms.specs.Stores.{opening_of}
-use Rattle.journal_terms.specs.Growing.{last_of, IsBehind, place_of, IsNext}
-use Rattle.history_audit.specs.declared.ledger.Ledger.{Ledger}
+use Rattle.journal_terms.specs.Growing.{last_of, IsBehind, place_of}
 use Rattle.history_audit.specs.declared.lines.RecordHead.{RecordHead}
 use Rattle.history_audit.specs.Ledgers.{as_entry, bare}
 use Rattle.history_audit.specs.Structures.{IsListed}

@@ -1,26 +1,24 @@
 -- A verdict from the lines that were read.
-use Rattle.std.proofs.Common.{append_assoc, append-nil, ◌≡◌, ◌↔◌, ℕ, zero, suc, ◌+◌, ◌<◌, ◌≤◌, ◌⊎◌, inl, inr, Bool, true, false, IsTrue, eqb, cond, List, [], ◌∷◌, ◌++◌, map, length, get_or, refl, sym, ap, ◌∙◌, subst, Option, Some, None, arith, codes, length-append}
+use Rattle.std.proofs.Common.{append_assoc, append-nil, ◌≡◌, ℕ, suc, ◌+◌, ◌≤◌, inl, inr, Bool, true, false, eqb, cond, List, [], ◌∷◌, ◌++◌, map, length, get_or, refl, sym, ap, ◌∙◌, subst, arith, codes, length-append}
 use Rattle.std.specs.List.{join_with_byte}
 use Rattle.std.specs.Str.{bytes_eq}
 use Rattle.std.proofs.lemmas.Slice.Eq.{bytes_eq-Decides}
 use Rattle.std.proofs.lemmas.List.Splits.{join_with_byte-slice_split}
 use Rattle.serial_terms.specs.declared.call.Done.{Done}
 use Rattle.serial_terms.specs.Entries.{Entry, Each, by_caller}
-use Rattle.serial_terms.specs.Histories.{IsLegalHistory, IsLegalRun}
+use Rattle.serial_terms.specs.Histories.{IsLegalRun}
 use Rattle.serial_terms.specs.Serial.{State}
 use Rattle.serial_terms.specs.Sights.{Seen}
-use Rattle.journal_terms.specs.Growing.{without_sights, BeginningsAreLegal, JournalsGrow, HistoriesGrow, WhatSuits, GoesOnByRecord, GoesOnBySight, IsSecond, IsNext, SuitsAsRecord, last_of}
+use Rattle.journal_terms.specs.Growing.{without_sights, BeginningsAreLegal, JournalsGrow, HistoriesGrow, WhatSuits, GoesOnByRecord, GoesOnBySight, IsNext, SuitsAsRecord, last_of}
 use Rattle.journal_terms.specs.Laws.{IsWritable, IsWritableEntry}
-use Rattle.journal_terms.specs.Legal.{AreSizes, BeginsLegal, IsFirstBadLine, IsLegalJournal, IsRecordIn, layout_of, lines_of, start_of}
+use Rattle.journal_terms.specs.Legal.{AreSizes, IsFirstBadLine, IsLegalJournal, IsRecordIn, layout_of, lines_of, start_of}
 use Rattle.journal_terms.specs.Naming.{LinesAreNamed}
 use Rattle.journal_terms.specs.Reading.{cut_at}
 use Rattle.journal_terms.specs.Strict.{IsReadable, IsReadableRecord}
 use Rattle.journal_terms.specs.Text.{Journal, begun_lines, journal_lines, record_text, sight_text, sights_in, sizes_text, title}
 use Rattle.history_audit.specs.declared.lines.Sizes.{Sizes}
-use Rattle.history_audit.specs.declared.verdict.Verdict.{Verdict}
-use Rattle.history_audit.specs.declared.verdict.Verdict.TheVariants.{Yes, No}
-use Rattle.history_audit.specs.Verdicts.{IsLegalWith, IsVerdict, HasRead, with_records}
-use Rattle.history_audit.proofs.Cuts.{HasPiece, cut_some}
+use Rattle.history_audit.specs.Verdicts.{IsLegalWith, HasRead, with_records}
+use Rattle.history_audit.proofs.Cuts.{cut_some}
 
 abbrev Lines : Type 0
 Lines = List (List ℕ)

@@ -1,16 +1,16 @@
 -- The state that a run opens with, and what is within the capacities of a state.
-use Rattle.std.proofs.Common.{◌≡◌, ◌≢◌, ◌↔◌, ℕ, zero, suc, ◌+◌, ◌<◌, ◌≤◌, Bool, true, false, eqb, cond, List, [], ◌∷◌, length, refl, sym, ap, ◌∙◌, subst, Option, Some, None, arith, eq-eqb, ne_eqb}
-use Rattle.std.specs.Prelude.{nat_lt, nat_eq, get_or, min, max}
+use Rattle.std.proofs.Common.{◌≡◌, ◌↔◌, ℕ, zero, suc, ◌+◌, ◌<◌, ◌≤◌, Bool, true, false, cond, [], ◌∷◌, length, refl, sym, ap, ◌∙◌, subst, Option, Some, None, arith, eq-eqb, ne_eqb}
+use Rattle.std.specs.Prelude.{nat_lt, nat_eq, get_or, min}
 use Rattle.std.specs.Map.{count_at}
 use Rattle.std.specs.HashMap.{get}
-use Rattle.std.proofs.lemmas.Bool.{cond-true, cond-false, eqb-true, false_from_ne_true, ltb-true, lt-ltb}
+use Rattle.std.proofs.lemmas.Bool.{cond-true, cond-false, false_from_ne_true, ltb-true, lt-ltb}
 use mathlib.Core.Logic.{dite}
 use mathlib.Core.Path.{fun_ext}
 use native.Mathlib.Decide.{ℕ_discrete}
-use Rattle.serial_terms.specs.Counts.{times, numbers_from, with_at}
+use Rattle.serial_terms.specs.Counts.{times, numbers_from}
 use Rattle.serial_terms.specs.Facts.{with_at_same, with_at_other}
 use Rattle.serial_terms.specs.RunLayout.{layout_by, room_for}
-use Rattle.serial_terms.specs.Serial.{State, Sequence, Pool, pool_of, IsWithinCapacity}
+use Rattle.serial_terms.specs.Serial.{State, Sequence, pool_of, IsWithinCapacity}
 use Rattle.serial_terms.specs.Sights.{part_of}
 use Rattle.serial_terms.specs.Stores.{opening_of}
 use Rattle.history_audit.specs.declared.structures.Structures.{Structures}

@@ -1,18 +1,16 @@
 -- Calls that run, and how they are taken back.
-use Rattle.std.proofs.Common.{◌≡◌, ℕ, zero, suc, ◌+◌, ◌-◌, ◌<◌, ◌≤◌, ◌↔◌, Bool, true, false, eqb, cond, List, [], ◌∷◌, ◌++◌, length, take, drop, get_or, refl, sym, ap, ◌∙◌, subst, Option, Some, None, arith, add-one}
+use Rattle.std.proofs.Common.{◌≡◌, ℕ, ◌+◌, ◌<◌, Bool, true, false, eqb, cond, List, [], ◌∷◌, ◌++◌, length, drop, get_or, refl, sym, ap, ◌∙◌, subst, arith, add-one}
 use Rattle.std.proofs.Math.Seq.{drop-cons}
-use Rattle.std.specs.Prelude.{nat_lt}
-use Rattle.std.proofs.lemmas.Bool.{cond-true, cond-false, eqb-true, cases_eq}
+use Rattle.std.proofs.lemmas.Bool.{eqb-true}
 use Rattle.serial_terms.specs.declared.call.Call.{Call}
 use Rattle.serial_terms.specs.declared.call.Call.TheVariants.{MapGet, MapPut, MapRemove, MapPutIfAbsent, Enqueue, Dequeue, QueueLen, Take, Give, Append, AppendPlaced, LogRead, LogLen, CellGet, CellPut}
 use Rattle.serial_terms.specs.declared.call.Reply.{Reply}
 use Rattle.serial_terms.specs.declared.call.Reply.TheVariants.{Nothing, Absent, Value, Flag}
 use Rattle.serial_terms.specs.declared.call.Done.{Done}
-use Rattle.serial_terms.specs.Counts.{times, with_at}
+use Rattle.serial_terms.specs.Counts.{times}
 use Rattle.serial_terms.specs.Entries.{Each}
-use Rattle.serial_terms.specs.Facts.{with_at_same, with_at_other}
 use Rattle.serial_terms.specs.Histories.{Runs}
-use Rattle.serial_terms.specs.Serial.{State, Pool, pool_of, less, more, step, IsReplied, Allows, after, after_take, after_give, put_pool}
+use Rattle.serial_terms.specs.Serial.{State, Pool, pool_of, less, more, step, Allows, after, after_take, after_give, put_pool}
 use Rattle.history_audit.specs.declared.structures.Change.{Change}
 use Rattle.history_audit.specs.Structures.{back, undone, IsFirst, IsListed}
 

@@ -1,15 +1,15 @@
 -- Where the structures of a state stand, and what changes of them do to the state.
-use Rattle.std.proofs.Common.{◌≡◌, ◌≢◌, ℕ, zero, suc, ◌-◌, ◌<◌, Bool, true, false, eqb, cond, List, [], ◌∷◌, drop, refl, sym, ap, ◌∙◌, subst, Option, Some, None, eq-eqb, ne_eqb}
-use Rattle.std.specs.Prelude.{◌&&◌, nat_eq}
+use Rattle.std.proofs.Common.{◌≡◌, ℕ, true, false, cond, List, [], ◌∷◌, drop, refl, sym, ap, ◌∙◌, Option, Some, eq-eqb, ne_eqb}
+use Rattle.std.specs.Prelude.{nat_eq}
 use Rattle.std.specs.Map.{count_at}
 use Rattle.std.specs.HashMap.{get}
-use Rattle.std.proofs.lemmas.Bool.{cond-true, cond-false, eqb-true}
+use Rattle.std.proofs.lemmas.Bool.{cond-true, cond-false}
 use mathlib.Core.Logic.{dite}
 use mathlib.Core.Path.{fun_ext}
 use native.Mathlib.Decide.{ℕ_discrete}
 use Rattle.serial_terms.specs.Counts.{with_at}
-use Rattle.serial_terms.specs.Facts.{with_at_same, with_at_other, with_at_own, with_at_twice}
-use Rattle.serial_terms.specs.Serial.{State, Sequence, Pool, rest, put_map, put_queue, put_pool, put_log, put_cell}
+use Rattle.serial_terms.specs.Facts.{with_at_same, with_at_other, with_at_twice}
+use Rattle.serial_terms.specs.Serial.{Sequence, Pool, rest, put_map, put_queue, put_log, put_cell}
 use Rattle.history_audit.specs.declared.structures.Structures.{Structures}
 use Rattle.history_audit.specs.Structures.{state_of, is_same_key, alone, no_sequence, no_pool, put_item}
 

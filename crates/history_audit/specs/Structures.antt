@@ -1,5 +1,5 @@
 -- What the audit's structures stand for.
-use Rattle.std.specs.Prelude.{◌≡◌, ℕ, ◌-◌, ◌<◌, ◌≤◌, ◌&&◌, Bool, true, false, nat_eq, List, [], ◌∷◌, length, take, Option, Some, None}
+use Rattle.std.specs.Prelude.{◌≡◌, ℕ, ◌-◌, ◌<◌, ◌&&◌, Bool, true, false, nat_eq, List, [], ◌∷◌, length, take}
 use Rattle.std.specs.Map.{count_at}
 use Rattle.std.specs.HashMap.{get}
 use Rattle.serial_terms.specs.declared.call.Call.{Call}

@@ -7,7 +7,6 @@ use Rattle.serial_terms.specs.Serial.{State}
 use Rattle.journal_terms.specs.Growing.{without_sights}
 use Rattle.journal_terms.specs.Legal.{IsLegalJournal, IsFirstBadLine, start_of}
 use Rattle.journal_terms.specs.Reading.{cut_at}
-use Rattle.journal_terms.specs.Strict.{IsReadableRecord}
 use Rattle.journal_terms.specs.Text.{Journal, journal_text, record_text, sights_in}
 use Rattle.history_audit.specs.declared.lines.Sizes.{Sizes}
 use Rattle.history_audit.specs.declared.verdict.Verdict.{Verdict}

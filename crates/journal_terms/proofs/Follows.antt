@@ -1,13 +1,12 @@
 -- A further sight, from what the sights before it come to and from the records up to its place.
-use Rattle.std.proofs.Common.{◌≡◌, ◌≢◌, ℕ, zero, suc, ◌+◌, ◌<◌, ◌≤◌, ◌⊎◌, inl, inr, Bool, true, false, cond, eqb, List, [], ◌∷◌, length, sym, refl, ap, ◌∙◌, subst, arith, max}
+use Rattle.std.proofs.Common.{◌≡◌, ℕ, zero, suc, ◌+◌, ◌<◌, ◌≤◌, ◌⊎◌, inl, inr, Bool, true, false, cond, eqb, List, [], ◌∷◌, length, sym, refl, ap, ◌∙◌, subst, arith, max}
 use Rattle.std.specs.Prelude.{nat_le}
-use Rattle.std.proofs.lemmas.Bool.{cond-true, cond-false, eqb-true, eq-eqb, ne_eqb, false_from_ne_true, leb-true, le-leb}
+use Rattle.std.proofs.lemmas.Bool.{cond-true, cond-false, eqb-true, eq-eqb, false_from_ne_true, leb-true, le-leb}
 use Rattle.serial_terms.specs.declared.call.Done.{Done}
 use Rattle.serial_terms.specs.Entries.{Entry, Each, OrderedBy, Precedes, IsInOrder, by_caller, up_to, IsCountedFrom}
 use Rattle.serial_terms.specs.Sights.{Seen, IsSeenBefore, IsAfterItsCallers}
-use Rattle.journal_terms.specs.Text.{Journal, sights_in}
-use Rattle.journal_terms.specs.Legal.{IsLegalJournal}
-use Rattle.journal_terms.specs.Naming.{latest, IsNotBelow, most_after, FollowsAsSight, SightsFollow}
+use Rattle.journal_terms.specs.Text.{sights_in}
+use Rattle.journal_terms.specs.Naming.{latest, IsNotBelow, most_after, SightsFollow}
 
 -- ---- the order of sights
 

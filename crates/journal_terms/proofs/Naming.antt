@@ -1,11 +1,11 @@
 -- The line that is named as the first bad one.
-use Rattle.std.proofs.Common.{append_assoc, append-nil, ◌≡◌, ℕ, zero, suc, ◌+◌, ◌-◌, ◌<◌, ◌≤◌, eqb, List, [], ◌∷◌, ◌++◌, length, take, sym, refl, ap, ◌∙◌, subst, arith, codes}
+use Rattle.std.proofs.Common.{append_assoc, append-nil, ◌≡◌, ℕ, ◌+◌, ◌-◌, ◌<◌, List, [], ◌∷◌, ◌++◌, length, take, sym, refl, ap, ◌∙◌, subst, arith, codes}
 use Rattle.std.specs.List.{join_with_byte}
 use Rattle.std.proofs.lemmas.List.{length-append}
 use Rattle.std.proofs.lemmas.List.Splits.{join_with_byte-slice_split}
 use Rattle.std.proofs.Math.Seq.{take-append_seam}
-use Rattle.journal_terms.specs.Text.{Journal, journal_text, journal_lines, begun_lines, lines_text}
-use Rattle.journal_terms.specs.Legal.{IsLegalText, BeginsLegal, IsLegalJournal, lines_of, IsFirstBadLine}
+use Rattle.journal_terms.specs.Text.{journal_lines, lines_text}
+use Rattle.journal_terms.specs.Legal.{IsLegalText, BeginsLegal, lines_of, IsFirstBadLine}
 use Rattle.journal_terms.specs.Naming.{LinesAreNamed}
 use Rattle.journal_terms.proofs.Beginnings.{legal_lines}
 use Rattle.journal_terms.proofs.Grown.{journals_grow, whole_lines}

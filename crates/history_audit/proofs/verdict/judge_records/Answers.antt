@@ -1,14 +1,10 @@
-use Rattle.std.proofs.Common.{◌≡◌, ◌∙◌, ℕ, ◌+◌, ◌<◌, ◌≤◌, Bool, true, false, List, [], ◌∷◌, ◌++◌, length, refl, ap, sym, subst, arith, Option, Some, None, codes}
+use Rattle.std.proofs.Common.{◌≡◌, ◌∙◌, ◌<◌, Bool, false, [], ◌∷◌, ◌++◌, length, ap, sym, subst, arith, Some, None, codes}
 use Rattle.std.specs.Option.{option_map}
 use Rattle.serial_terms.specs.declared.call.Done.{Done}
 use Rattle.serial_terms.specs.Entries.{Entry, by_caller}
 use Rattle.serial_terms.specs.Histories.{entry_of, IsLegalRun}
-use Rattle.serial_terms.specs.Serial.{State}
-use Rattle.serial_terms.specs.Sights.{Seen}
 use Rattle.journal_terms.specs.Growing.{without_sights, GoesOnByRecord, GoesOnBySight, IsSecond, IsNext, last_of}
 use Rattle.journal_terms.specs.Legal.{IsRecordIn}
-use Rattle.journal_terms.specs.Strict.{IsReadableRecord}
-use Rattle.journal_terms.specs.Text.{record_text, sights_in}
 use Rattle.history_audit.specs.declared.lines.Sizes.{Sizes}
 use Rattle.history_audit.specs.Ledgers.{HasGrown, IsAdmitted, layout_of}
 use Rattle.history_audit.specs.Structures.{IsListed}

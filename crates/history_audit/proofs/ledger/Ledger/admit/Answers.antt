@@ -1,13 +1,12 @@
-use Rattle.std.proofs.Common.{◌≡◌, ◌∙◌, ℕ, ◌+◌, ◌<◌, Bool, List, [], ◌∷◌, ◌++◌, length, refl, ap, sym, subst, arith, length-append}
+use Rattle.std.proofs.Common.{◌≡◌, ◌∙◌, ◌<◌, Bool, [], ◌∷◌, length, refl, ap, sym, subst, arith, length-append}
 use Rattle.std.specs.Option.{option_map}
 use Rattle.serial_terms.specs.declared.call.Done.{Done}
-use Rattle.serial_terms.specs.Entries.{Entry, Each, by_caller}
+use Rattle.serial_terms.specs.Entries.{Entry, by_caller}
 use Rattle.serial_terms.specs.Histories.{entry_of, IsLegalRun}
 use Rattle.serial_terms.specs.Ranges.{AreCallsOf, BelowCapacity}
-use Rattle.serial_terms.specs.RunLayout.{layout_by}
 use Rattle.serial_terms.specs.Serial.{State}
 use Rattle.journal_terms.specs.Growing.{last_of}
-use Rattle.history_audit.specs.Structures.{state_of, HasCommitted, IsFirst, IsListed}
+use Rattle.history_audit.specs.Structures.{state_of, HasCommitted, IsListed}
 use Rattle.history_audit.specs.Ledgers.{bare, layout_of}
 use Rattle.history_audit.proofs.Growth.{behind_bare, counts_more, last_more}
 use Rattle.history_audit.proofs.Running.{listed_run}

@@ -1,4 +1,4 @@
-use Rattle.std.proofs.Common.{◌≡◌, refl}
+use Rattle.std.proofs.Common.{refl}
 use Rattle.history_audit.proofs.Growth.{opening_listed}
 use Rattle.history_audit.proofs.ledger.Ledger.opened.Goals as goal
 

@@ -1,7 +1,5 @@
-use Rattle.std.proofs.Common.{◌≡◌, ◌∙◌, ℕ, ◌-◌, Option, List, [], ◌∷◌, ◌++◌, length, take, refl, ap, sym, Some, None, arith, rules, deque_len, vec_len}
-use Rattle.history_audit.proofs.Stated.{queue_put, log_put, items_of_queue, items_of_log}
-use Rattle.history_audit.proofs.Backs.{counted}
-use Rattle.history_audit.specs.Structures.{state_of}
+use Rattle.std.proofs.Common.{◌≡◌, ◌∙◌, ℕ, ◌-◌, List, length, take, refl, ap, sym, rules, vec_len}
+use Rattle.history_audit.proofs.Stated.{log_put, items_of_log}
 use Rattle.history_audit.proofs.structures.Structures.drop_entry.Goals as goal
 
 pub returns : goal.returns

@@ -1,4 +1,4 @@
-use Rattle.std.proofs.Common.{◌≡◌, ◌≤◌, arith}
+use Rattle.std.proofs.Common.{◌≤◌, arith}
 use Rattle.std.proofs.lemmas.Bool.{leb-true, le-leb}
 use Rattle.history_audit.proofs.Openings.{within_state}
 use Rattle.history_audit.proofs.structures.Structures.is_within.Goals as goal

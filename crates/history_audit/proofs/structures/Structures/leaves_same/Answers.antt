@@ -1,4 +1,4 @@
-use Rattle.std.proofs.Common.{◌≡◌, ◌∙◌, ap, sym}
+use Rattle.std.proofs.Common.{◌∙◌, ap}
 use Rattle.history_audit.specs.Structures.{state_of, now_at}
 use Rattle.history_audit.specs.declared.structures.Change.{Change}
 use Rattle.std.proofs.Common.{List, map}

@@ -1,7 +1,5 @@
-use Rattle.std.proofs.Common.{◌≡◌, ℕ, List, refl, ap, ◌∙◌, sym}
-use Rattle.std.specs.Map.{lookup, count_at}
-use Rattle.std.specs.HashMap.{get}
-use Rattle.std.specs.Prelude.{nat_eq}
+use Rattle.std.proofs.Common.{ℕ, List, refl, ap, ◌∙◌}
+use Rattle.std.specs.Map.{lookup}
 use Rattle.serial_terms.specs.Counts.{times, numbers_from}
 use Rattle.history_audit.specs.Structures.{is_same_key}
 use Rattle.history_audit.proofs.Openings.{opening_is}

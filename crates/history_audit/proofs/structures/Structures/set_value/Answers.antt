@@ -1,7 +1,7 @@
-use Rattle.std.proofs.Common.{◌≡◌, ◌∙◌, ℕ, Option, List, [], ◌∷◌, ◌++◌, refl, ap, sym, Some, None, take, length, subst}
-use Rattle.history_audit.proofs.Stated.{value_put, item_put, queue_put, log_put, cell_put, items_of_queue, items_of_log, drop_one}
-use Rattle.history_audit.specs.Structures.{state_of, but_last}
-use Rattle.serial_terms.specs.Serial.{rest, put_map}
+use Rattle.std.proofs.Common.{◌≡◌, ◌∙◌, ℕ, Option, refl, ap, sym, Some, None}
+use Rattle.history_audit.proofs.Stated.{value_put}
+use Rattle.history_audit.specs.Structures.{state_of}
+use Rattle.serial_terms.specs.Serial.{put_map}
 use Rattle.history_audit.proofs.structures.Structures.set_value.Goals as goal
 
 pub returns-in_ok-insert-in-Some : goal.returns-in_ok-insert-in-Some

@@ -1,5 +1,5 @@
-use Rattle.std.proofs.Common.{◌≡◌, ◌∙◌, ℕ, Option, List, [], ◌∷◌, ◌++◌, refl, ap, sym, Some, None, arith}
-use Rattle.history_audit.proofs.Backs.{taken, is_held, given, not_given, item_back, counted}
+use Rattle.std.proofs.Common.{◌∙◌}
+use Rattle.history_audit.proofs.Backs.{taken, is_held, item_back}
 use Rattle.history_audit.specs.Structures.{state_of}
 use Rattle.history_audit.proofs.structures.Structures.take.Goals as goal
 

@@ -1,4 +1,4 @@
-use Rattle.std.proofs.Common.{◌≡◌, ◌∙◌, ℕ, List, [], ◌∷◌, ◌++◌, refl, ap, sym}
+use Rattle.std.proofs.Common.{◌∙◌, List, ap, sym}
 use Rattle.history_audit.specs.declared.structures.Change.{Change}
 use Rattle.history_audit.specs.Structures.{state_of, undone}
 use Rattle.history_audit.proofs.Running.{undone_more}
