@@ -1,14 +1,13 @@
 -- What the calls make of the queue, by what is known of its end and of its first item.
-use Rattle.std.proofs.Common.{◌≡◌, ◌≢◌, ℕ, ◌+◌, ◌<◌, ◌≤◌, List, [], ◌∷◌, ◌++◌, ◌⊎◌, inl, inr, length, drop, set, Some, None, refl, sym, ap, ◌∙◌, arith}
+use Rattle.std.proofs.Common.{◌≡◌, ℕ, ◌+◌, ◌<◌, List, [], ◌∷◌, ◌++◌, ◌⊎◌, inl, inr, length, drop, set, Some, None, refl, sym, ap, ◌∙◌, arith}
 use Rattle.std.specs.Prelude.{Option, MatchOption, slice_index, slice_set}
 use Rattle.std.specs.List.{slice_get}
-use Rattle.std.specs.Option.{option_or}
 use Rattle.std.proofs.lemmas.List.{length-append, get_or-set_other}
 use Rattle.cell_table.specs.Cells.{AllHold, after, has}
 use Rattle.cell_table.specs.Rule.{cells_of}
 use Rattle.attempt_lists.specs.Cells.{Entries, word_at, put}
 use Rattle.store_layout.specs.States.{head_in, length_in}
-use Rattle.tx_core.specs.Tx.{Attempt, Observed}
+use Rattle.tx_core.specs.Tx.{Attempt}
 use Rattle.tx_core.specs.Parts.{Shows}
 use Rattle.tx_core.specs.Calls.{StepsAt, HoldsAt, TouchesOnly, known, begun, waiting}
 use Rattle.tx_core.specs.Facts.{holds_wider, holds_then}

@@ -1,5 +1,4 @@
 use Rattle.std.proofs.Common.{◌≡◌, ◌⊎◌, ◌<◌, inl, inr, Some, ap, arith}
-use Rattle.attempt_lists.specs.Cells.{Entries, word_at}
 use Rattle.store_layout.specs.States.{length_in}
 use Rattle.tx_core.specs.Tx.{Attempt}
 use Rattle.tx_core.specs.Calls.{known}
