@@ -24,7 +24,8 @@ use Rattle.store_parts.specs.Laws.{LogCalls}
 use Rattle.store_parts.proofs.Touching.{fits, words_below, changes_only}
 use Rattle.store_parts.proofs.LogWords.{words_are, to_log, from_log, values_same, log_below}
 use Rattle.tx_log.specs.declared.part.LogPart.{LogPart}
-use Rattle.tx_log.specs.Log.{IsLog, values_in, Appends, AppendsAt, HasAt, HasLength}
+use Rattle.tx_core.specs.Sequences.{Appends, HasLength}
+use Rattle.tx_log.specs.Log.{IsLog, values_in, AppendsAt, HasAt}
 
 -- what the law of logs says of their calls
 abbrev pub SerialAppend : Type 0

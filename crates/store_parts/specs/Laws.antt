@@ -13,6 +13,7 @@ use Rattle.tx_map.specs.Map as map
 use Rattle.tx_pool.specs.declared.part.PoolPart.{PoolPart}
 use Rattle.tx_pool.specs.Pool as pool
 use Rattle.tx_log.specs.declared.part.LogPart.{LogPart}
+use Rattle.tx_core.specs.Sequences.{Appends, HasLength, Settles}
 use Rattle.tx_log.specs.Log as log
 
 pub record MapCalls (s : Shape) (m : ℕ) (part : MapPart) : Type 0 where
@@ -47,7 +48,7 @@ MakesOf part old new P = Explains (log.IsLog part) old new (λ before after. log
 pub record LogCalls (s : Shape) (l : ℕ) (part : LogPart) : Type 0 where
   pub formed : (cells : List ℕ) → IsFormed s cells → log.IsLog part cells
   pub append : (old new : Progress) (value : ℕ) (child : Bool) → Touches s (the_log l) old new → new.writes ≡ old.writes → WaitsAlikeBut part.part old new
-      → MakesOf part old new (log.Appends value)
+      → MakesOf part old new (Appends value)
       → IsCallOn s (the_log l) old new (noted (Append l value) Nothing child 0)
   pub append_placed : (old new : Progress) (value place : ℕ) (child : Bool) → Touches s (the_log l) old new → new.writes ≡ old.writes → WaitsAlikeBut part.part old new
       → MakesOf part old new (log.AppendsAt value place)
@@ -56,11 +57,11 @@ pub record LogCalls (s : Shape) (l : ℕ) (part : LogPart) : Type 0 where
       → MakesOf part old new (log.HasAt i x)
       → IsCallOn s (the_log l) old new (noted (LogRead l i) (found x) child 0)
   pub len : (old new : Progress) (n : ℕ) (child : Bool) → Touches s (the_log l) old new → new.writes ≡ old.writes → WaitsAlike old new
-      → MakesOf part old new (log.HasLength n)
+      → MakesOf part old new (HasLength n)
       → IsCallOn s (the_log l) old new (noted (LogLen l) (Value n) child 0)
   -- the placing of what waits at the commit
   pub resolve : (old new : Progress) → Touches s (the_log l) old new → WaitsAlikeBut part.part old new → new.waiting part.part ≡ []
-      → All IsKept (old.waiting part.part) → MakesOf part old new (log.Settles part.capacity)
+      → All IsKept (old.waiting part.part) → MakesOf part old new (Settles part.capacity)
       → IsPlacedOn s (the_log l) old new
 
 pub record CellCalls (s : Shape) (c : ℕ) : Type 0 where

@@ -32,6 +32,7 @@ module _ {M D : Type 0} (old new : Attempt M D) where
       additions = ap (λ (a : Attempt M D). a.additions) is;
       spare = ap (λ (a : Attempt M D). a.spare) is;
       committing = ap (λ (a : Attempt M D). a.committing) is;
+      mark = ap (λ (a : Attempt M D). a.mark) is;
     },
     ap (λ (a : Attempt M D). a.writes) is,
   )
