@@ -8,3 +8,4 @@ pub mod Again
 pub mod Sized
 pub mod Growth
 pub mod Judging
+pub mod Replaying

@@ -4,3 +4,4 @@ pub mod Structures
 pub mod Counts
 pub mod Ledgers
 pub mod Verdicts
+pub mod Replays

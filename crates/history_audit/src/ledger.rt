@@ -18,7 +18,7 @@ use serial_terms::laws::pools_are_counts;
 use std::alloc::{AllocError, Global};
 
 /// Places are below this one.
-const PLACES: u64 = 1152921504606846976;
+pub(crate) const PLACES: u64 = 1152921504606846976;
 
 /// What the records of a journal come to, as far as they have been read.
 #[derive(Drop)]

@@ -6,6 +6,7 @@ mod counts;
 mod ledger;
 mod lines;
 mod ranges;
+mod replay;
 mod sights;
 mod structures;
 #[cfg(test)]
