@@ -9,3 +9,4 @@ pub mod Sized
 pub mod Growth
 pub mod Judging
 pub mod Replaying
+pub mod Sighting

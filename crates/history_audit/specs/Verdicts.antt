@@ -1,12 +1,14 @@
 -- What a verdict says of a text.
-use Rattle.std.specs.Prelude.{◌≡◌, ℕ, ◌+◌, Bool, IsTrue, List, ◌++◌, length, map}
+use Rattle.std.specs.Prelude.{◌∷◌, Some, ◌≡◌, ℕ, ◌+◌, Bool, IsTrue, List, ◌++◌, length, map}
 use Rattle.serial_terms.specs.declared.call.Done.{Done}
 use Rattle.serial_terms.specs.Entries.{Entry}
-use Rattle.serial_terms.specs.Histories.{IsLegalHistory}
+use Rattle.serial_terms.specs.Histories.{IsLegalHistory, entry_of}
+use Rattle.serial_terms.specs.Sights.{Seen}
 use Rattle.serial_terms.specs.Serial.{State}
 use Rattle.journal_terms.specs.Growing.{without_sights}
 use Rattle.journal_terms.specs.Legal.{IsLegalJournal, IsFirstBadLine, start_of}
 use Rattle.journal_terms.specs.Reading.{cut_at}
+use Rattle.journal_terms.specs.Strict.{IsReadableRecord}
 use Rattle.journal_terms.specs.Text.{Journal, journal_text, record_text, sights_in}
 use Rattle.history_audit.specs.declared.lines.Sizes.{Sizes}
 use Rattle.history_audit.specs.declared.verdict.Verdict.{Verdict}
@@ -38,7 +40,15 @@ pub record HasRead (second : Bool) (sizes : Sizes) (lines rest : List ℕ) (numb
   pub lines_are : cut_at 10 lines ≡ map record_text es ++ cut_at 10 rest
   pub number_is : number ≡ 3 + length es
 
+-- a journal of these sizes, records and sights
+abbrev pub with_sights : Sizes → List (Entry Done) → List (Seen Done) → Journal
+with_sights s es vs = record { tasks = s.tasks; groups = s.groups; findings = s.findings; records = es; sights = Some vs }
+
+-- the first line is no record's
+abbrev pub IsNoRecord : List ℕ → Type 0
+IsNoRecord text = (line : List ℕ) (behind : List (List ℕ)) → cut_at 10 text ≡ line ∷ behind → (e : Entry Done) → IsReadableRecord e → record_text e ≡ line → ⊥
+
 -- the text is judged; or its records are read, and the line behind them is no record's, in a journal that may have sights
 abbrev pub IsOutcome : List ℕ → Bool → Sizes → List ℕ → Outcome → Type 0
 IsOutcome text second sizes lines (Judged v) = IsVerdict text v
-IsOutcome text second sizes lines (Sights rest line records) = IsTrue second × ((es : List (Entry Done)) × HasRead second sizes lines rest.now line es × (records ≡ length es))
+IsOutcome text second sizes lines (Sights rest line records) = IsTrue second × HasRead second sizes lines rest.now line (map entry_of records.items) × IsNoRecord rest.now

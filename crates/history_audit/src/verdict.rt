@@ -4,17 +4,22 @@ ghost use Rattle.std.specs.Option.{option_map};
 ghost use Rattle.journal_terms.specs.Growing.{without_sights};
 ghost use Rattle.journal_terms.specs.Legal.{AreSizes, IsLegalJournal, lines_of};
 ghost use Rattle.journal_terms.specs.Reading.{cut_at};
-ghost use Rattle.journal_terms.specs.Text.{Journal, journal_lines, sights_in, sizes_text, title};
+ghost use Rattle.journal_terms.specs.Text.{Journal, begun_lines, journal_lines, sights_in, sizes_text, title};
 ghost use Rattle.history_audit.specs.Heads.{sizes_of};
-ghost use Rattle.history_audit.specs.Verdicts.{IsOutcome, IsVerdict};
+ghost use Rattle.history_audit.specs.Verdicts.{IsNoRecord, IsOutcome, IsVerdict, with_records};
+ghost use Rattle.std.specs.Prelude.{Bool, IsTrue, map, true};
+ghost use Rattle.serial_terms.specs.Histories.{entry_of};
 
 use crate::ledger::Ledger;
 use crate::lines::{Sizes, record};
+use crate::replay::Replay;
+use crate::sights::sight;
 use crate::words::cut;
 use journal_terms::{
     beginnings_are_legal_law, histories_grow_law, journals_grow_law, lines_are_named_law,
-    what_suits_law,
+    sights_follow_law, what_suits_law,
 };
+use serial_terms::Record;
 use std::alloc::{AllocError, Global};
 
 /// What an audit says of a text.
@@ -28,15 +33,15 @@ pub enum Verdict {
 }
 
 /// What the lines behind an opening come to, as far as they are records.
-#[derive(Clone, Copy, Debug)]
+#[derive(Debug, Drop)]
 pub enum Outcome<'t> {
     /// The text is judged.
     Judged(Verdict),
-    /// So many records are legal, and `rest` begins with a line of this number that is no record's, in a journal that may have sights.
+    /// These records are legal, and `rest` begins with a line of this number that is no record's, in a journal that may have sights.
     Sights {
         rest: &'t [u8],
         line: u64,
-        records: u64,
+        records: Vec<Record>,
     },
 }
 
@@ -72,6 +77,7 @@ pub fn judge_records(
     lines_are_named_law();
     what_suits_law();
     let mut ledger = Ledger::opened(alloc, sizes)?;
+    let mut records = Vec::new(alloc);
     let mut rest = lines;
     let mut number = 3;
     'lines: loop {
@@ -88,7 +94,7 @@ pub fn judge_records(
                 return Ok(Outcome::Sights {
                     rest,
                     line: number,
-                    records: ledger.records(),
+                    records,
                 });
             }
             None => return Ok(Outcome::Judged(Verdict::No { line: number })),
@@ -98,7 +104,69 @@ pub fn judge_records(
         if !admitted {
             return Ok(Outcome::Judged(Verdict::No { line: number }));
         }
+        records.push(record)?;
         rest = behind;
         number += 1;
     }
+}
+
+// Judges the lines behind the records of a journal that may have sights.
+fn judge_sights(alloc: Global, sizes: Sizes, records: &[Record], lines: &[u8], first: u64) -> Result<Verdict, AllocError>
+    requires legal { IsLegalJournal (with_records true sizes (map entry_of records.now)) }
+    requires behind { IsNoRecord lines.now }
+    requires number { first ≡ 3 + length (map entry_of records.now) }
+    requires short { first + length lines.now < 2 ^ 63 + 4 }
+    ensures { IfOk result (λ v. (text : List ℕ) → lines_of text ≡ begun_lines (with_records true sizes (map entry_of records.now)) ++ cut_at 10 lines.now → IsVerdict text v) }
+{
+    journals_grow_law();
+    lines_are_named_law();
+    sights_follow_law();
+    what_suits_law();
+    let mut replay = Replay::opened(alloc, sizes)?;
+    let mut rest = lines;
+    let mut number = first;
+    let mut sights = 0;
+    'lines: loop {
+        let (line, behind) = cut(b'\n', rest);
+        let behind = match behind {
+            None => return Ok(Verdict::No { line: number }),
+            Some(behind) => behind,
+        };
+        if line == b"end".as_slice() {
+            return Ok(ended(behind, number, records.len() as u64, sights));
+        }
+        let sight = match sight(alloc, line)? {
+            None => return Ok(Verdict::No { line: number }),
+            Some(sight) => sight,
+        };
+        let admitted = replay.admit(alloc, records, &sight)?;
+        if !admitted {
+            return Ok(Verdict::No { line: number });
+        }
+        rest = behind;
+        number += 1;
+        sights += 1;
+    }
+}
+
+// The version that the title names: the second one, or the first.
+fn version(line: &[u8]) -> Option<bool>
+    ensures { (second : Bool) → (result ≡ Some second) ↔ (title (without_sights second) ≡ line.now) }
+{
+    if line == b"journal 2".as_slice() {
+        Some(true)
+    } else if line == b"journal 1".as_slice() {
+        Some(false)
+    } else {
+        None
+    }
+}
+
+// Whether a run may have these sizes.
+fn are_sizes(sizes: Sizes) -> bool
+    ensures { IsTrue result ↔ AreSizes sizes.tasks sizes.groups sizes.findings }
+{
+    let tasks = sizes.tasks <= 262_144;
+    let groups = sizes.groups <= sizes.tasks;
+    tasks && groups && sizes.findings >= 1 && sizes.findings <= 1_048_576
 }
