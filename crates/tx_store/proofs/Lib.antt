@@ -3,3 +3,4 @@ pub mod Noting
 pub mod Telling
 pub mod PoolCalls
 pub mod CellCalls
+pub mod Knowing

@@ -1,3 +1,4 @@
 pub mod Stores
 pub mod Attempts
 pub mod Calls
+pub mod Known

@@ -5,6 +5,7 @@
 #![tactic(auto)]
 
 mod cells;
+mod history;
 mod notes;
 mod parts;
 mod pass;

@@ -1,0 +1,30 @@
+//! What a pass of a store knows of the store's history. Each function does nothing; what it ensures is the law.
+ghost use Rattle.cell_table.specs.Pass.{IsSole};
+ghost use Rattle.tx_store.specs.Known.{KnowsHistory, KnowsWholeHistory};
+ghost use Rattle.tx_store.specs.Stores.{IsPassOfStore};
+
+use crate::pass::StorePass;
+use crate::store::Store;
+use store_history::{one_history_law, whole_history_law};
+use store_meaning::Purpose;
+
+impl<P: Purpose> StorePass<P> {
+    /// At any moment there is one legal history of allowed records, through lawful states, in which each caller number of the pass has the
+    /// records of its book, in their order, and in which all is seen that the pass vouches for. Its map calls have a key's position in the
+    /// place of the key.
+    pub fn history_law(&self, store: &Store<P>)
+        requires { IsPassOfStore store.now self.now }
+        ensures { KnowsHistory P.lawful_state P.allowed store.now.table.meaning self.now.pass }
+    {
+        one_history_law(&self.pass, store.table.meaning());
+    }
+
+    /// Of a pass with every caller number: that history has the records of its books and no others, and no later place than it has seen.
+    pub fn whole_history_law(&self, store: &Store<P>)
+        requires of { IsPassOfStore store.now self.now }
+        requires sole { IsSole self.now.pass }
+        ensures { KnowsWholeHistory P.lawful_state P.allowed store.now.table.meaning self.now.pass }
+    {
+        whole_history_law(&self.pass, store.table.meaning());
+    }
+}
