@@ -53,6 +53,10 @@ fn attempt(
     requires cells { 1 < store.now.table.meaning.plan.cells }
     requires pools { 0 < length store.now.table.meaning.plan.pools }
 {
+    pass.history_law(store);
+    if pass.is_sole(store) {
+        pass.whole_history_law(store);
+    }
     let Ok(mut tx) = StoreTx::begin(alloc, store, pass) else {
         return Err(AllocError);
     };
