@@ -1,7 +1,28 @@
-use crate::tests::{commit, three_cells};
+ghost use Rattle.std.specs.Prelude.{◌≡◌, ◌<◌, true, false, length};
+ghost use Rattle.tx_core.specs.Children.{is_child};
+ghost use Rattle.tx_core.specs.declared.stop.TxState.TheVariants.{Child};
+
+use crate::tests::{commit, commit_beside, three_cells};
 use crate::{Stop, Tx, TxState, Untold};
 use cell_table::CellTable;
+use std::process::Abort;
 use std::test::Fail;
+
+// What a child does: it writes over its parent's write, holds cell 2, takes its parent's addition and adds another.
+fn act_as_child(rt: &impl Abort, tx: &mut Tx<'_, Untold>)
+    requires child { tx.old.state ≡ Child }
+    requires before_commit { tx.old.committing ≡ false }
+    requires cells { 2 < length tx.old.table.opening }
+    ensures child { is_child tx.new.state ≡ true }
+    ensures same { (tx.new.table ≡ tx.old.table) × (tx.new.committing ≡ false) × (tx.new.mark ≡ tx.old.mark) }
+{
+    assert_eq!(rt; tx.read(1), Ok(21));
+    tx.write(1, 22).expect(rt, "the child writes over it");
+    assert_eq!(rt; tx.read(1), Ok(22));
+    assert_eq!(rt; tx.hold(2), Ok(30));
+    assert_eq!(rt; tx.take_later(0), Some(5));
+    tx.later(0, 6).expect(rt, "the child adds a value");
+}
 
 // The second caller sees that cell 2 is held while the child is open, and free when it was dropped. The addition that the
 // child consumed waits again.
@@ -16,13 +37,8 @@ fn a_dropped_child_leaves_its_parent_as_it_was(rt: HostRuntime) -> Result<(), Fa
     tx.later(0, 5).expect(&rt, "a value is added");
     tx.mark();
     assert_eq!(rt; tx.state(), TxState::Child);
-    assert_eq!(rt; tx.read(1), Ok(21));
-    tx.write(1, 22).expect(&rt, "the child writes over it");
-    assert_eq!(rt; tx.read(1), Ok(22));
-    assert_eq!(rt; tx.hold(2), Ok(30));
+    act_as_child(&rt, &mut tx);
     assert_eq!(rt; table.look_lock(&mut other, 2), 1);
-    assert_eq!(rt; tx.take_later(0), Some(5));
-    tx.later(0, 6).expect(&rt, "the child adds a value");
     tx.back_to_mark();
     assert_eq!(rt; tx.state(), TxState::Running);
     assert_eq!(rt; table.look_lock(&mut other, 2), 0);
@@ -63,16 +79,9 @@ fn a_child_is_tried_again_at_a_raised_version(rt: HostRuntime) -> Result<(), Fai
     let Ok(mut a) = Tx::begin(rt.alloc(), &table, first) else {
         panic!(rt; "the first attempt begins");
     };
-    let Ok(mut b) = Tx::begin(rt.alloc(), &table, second) else {
-        panic!(rt; "the second attempt begins");
-    };
     assert_eq!(rt; a.read(1), Ok(4));
     a.mark();
-    b.write(0, 5).expect(&rt, "the second writes");
-    let Ok((place, _)) = commit(b) else {
-        panic!(rt; "the second commits");
-    };
-    assert_eq!(rt; place, 1);
+    commit_beside(&rt, &table, second, 0, 5, 1);
     assert_eq!(rt; a.read(0), Err(Stop::Newer { cell: 0, found: 1 }));
     assert_eq!(rt; a.state(), TxState::ChildStopped);
     a.back_to_mark();
@@ -91,17 +100,10 @@ fn a_changed_observation_refuses_the_raised_version(rt: HostRuntime) -> Result<(
     let Ok(mut a) = Tx::begin(rt.alloc(), &table, first) else {
         panic!(rt; "the first attempt begins");
     };
-    let Ok(mut b) = Tx::begin(rt.alloc(), &table, second) else {
-        panic!(rt; "the second attempt begins");
-    };
     assert_eq!(rt; a.read(1), Ok(0));
     a.mark();
     a.write(0, 20).expect(&rt, "the child writes");
-    b.write(1, 5).expect(&rt, "the second writes");
-    let Ok((place, _)) = commit(b) else {
-        panic!(rt; "the second commits");
-    };
-    assert_eq!(rt; place, 1);
+    commit_beside(&rt, &table, second, 1, 5, 1);
     a.back_to_mark();
     assert_eq!(rt; a.raise(), Err(Stop::Newer { cell: 1, found: 1 }));
     assert_eq!(rt; a.state(), TxState::Stopped);

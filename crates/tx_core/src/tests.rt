@@ -6,6 +6,7 @@ ghost use Rattle.tx_core.specs.Calls.{MayCommit, NothingWaits};
 use crate::{Stop, Tx, TxState, Untold};
 use cell_table::{CellTable, Contents, Pass};
 use std::alloc::Global;
+use std::process::Abort;
 use std::test::Fail;
 
 // Commits an attempt that writes, unless others stop it.
@@ -87,6 +88,29 @@ fn read_first(tx: &mut Tx<'_, Untold>, cell: u32) -> Result<u64, Stop>
     }
 }
 
+// The caller of another pass writes a value to a cell, and commits it at this place.
+pub(crate) fn commit_beside(
+    rt: &(impl Abort + AllocGlobal),
+    table: &CellTable<Untold>,
+    pass: Pass<Untold>,
+    cell: u32,
+    value: u64,
+    place: u64,
+)
+    requires of { IsPassOf table.now pass }
+    requires idle { IsIdle pass.view }
+    requires cell { cell < length table.now.opening }
+{
+    assert!(rt; pass.draws_left() > 0, "a draw is left");
+    let Ok(tx) = Tx::begin(rt.alloc(), table, pass) else {
+        panic!(rt; "the other attempt begins");
+    };
+    let Ok((drawn, _)) = write_and_commit(tx, cell, value) else {
+        panic!(rt; "the other caller commits");
+    };
+    assert_eq!(rt; drawn, place);
+}
+
 // The second caller commits 5 to cell 0 between the first one's read and its commit, whose draw is spent.
 #[test]
 fn an_observed_cell_that_changed_refuses_the_commit(rt: HostRuntime) -> Result<(), Fail> {
@@ -95,15 +119,8 @@ fn an_observed_cell_that_changed_refuses_the_commit(rt: HostRuntime) -> Result<(
     let Ok(mut a) = Tx::begin(rt.alloc(), &table, first) else {
         panic!(rt; "the first attempt begins");
     };
-    let Ok(mut b) = Tx::begin(rt.alloc(), &table, second) else {
-        panic!(rt; "the second attempt begins");
-    };
     assert_eq!(rt; read_first(&mut a, 0).expect(&rt, "cell 0 is read"), 0);
-    b.write(0, 5).expect(&rt, "the second writes");
-    let Ok((place, _)) = commit(b) else {
-        panic!(rt; "the second commits");
-    };
-    assert_eq!(rt; place, 1);
+    commit_beside(&rt, &table, second, 0, 5, 1);
     let Err((stop, first)) = write_and_commit(a, 1, 7) else {
         panic!(rt; "the first is refused");
     };
@@ -139,7 +156,7 @@ fn a_held_cell_stops_the_reader_and_comes_back_free(rt: HostRuntime) -> Result<(
     Ok(())
 }
 
-// The first caller has only written the cell, so a newer version of it is no matter.
+// The first caller only writes the cell, so it is no matter that it has a version above the attempt's.
 #[test]
 fn a_cell_only_written_may_have_become_newer(rt: HostRuntime) -> Result<(), Fail> {
     let (table, mut first) = CellTable::open(rt.alloc(), Untold, &[0, 0], 2)?;
@@ -147,16 +164,8 @@ fn a_cell_only_written_may_have_become_newer(rt: HostRuntime) -> Result<(), Fail
     let Ok(mut a) = Tx::begin(rt.alloc(), &table, first) else {
         panic!(rt; "the first attempt begins");
     };
-    let Ok(mut b) = Tx::begin(rt.alloc(), &table, second) else {
-        panic!(rt; "the second attempt begins");
-    };
-    a.write(0, 7).expect(&rt, "the first writes");
-    b.write(0, 5).expect(&rt, "the second writes");
-    let Ok((place, _)) = commit(b) else {
-        panic!(rt; "the second commits");
-    };
-    assert_eq!(rt; place, 1);
-    let Ok((place, mut first)) = commit(a) else {
+    commit_beside(&rt, &table, second, 0, 5, 1);
+    let Ok((place, mut first)) = write_and_commit(a, 0, 7) else {
         panic!(rt; "the first commits");
     };
     assert_eq!(rt; place, 2);
@@ -246,15 +255,8 @@ fn a_late_lock_takes_a_newer_value_and_validates_it(rt: HostRuntime) -> Result<(
     let Ok(mut a) = Tx::begin(rt.alloc(), &table, first) else {
         panic!(rt; "the first attempt begins");
     };
-    let Ok(mut b) = Tx::begin(rt.alloc(), &table, second) else {
-        panic!(rt; "the second attempt begins");
-    };
     a.later(0, 9).expect(&rt, "the first adds a value");
-    b.write(0, 5).expect(&rt, "the second writes");
-    let Ok((place, _)) = commit(b) else {
-        panic!(rt; "the second commits");
-    };
-    assert_eq!(rt; place, 1);
+    commit_beside(&rt, &table, second, 0, 5, 1);
     assert_eq!(rt; lock_late(&mut a, 0), Ok((5, 1, 2)));
     let mut first = a.abort();
     assert_eq!(rt; table.look_lock(&mut first, 0), 2);
