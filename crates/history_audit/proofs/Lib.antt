@@ -10,3 +10,4 @@ pub mod Growth
 pub mod Judging
 pub mod Replaying
 pub mod Sighting
+pub mod Auditing

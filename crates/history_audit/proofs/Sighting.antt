@@ -53,7 +53,7 @@ module _ (sizes : Sizes) (es : List (Entry Done)) (lines rest text : List ℕ) (
   pub unended_sight : LinesAreNamed → JournalsGrow → (last : List ℕ) → cut_at 10 rest ≡ last ∷ [] → IsFirstBadLine text number
   unended_sight named grow last e = subst (IsFirstBadLine text) number_here
       (named.short text (begun_lines (with_sights sizes es vs)) last (lines_here ∙ ap (λ (z : Lines). begun_lines (with_sights sizes es vs) ++ z) e) (grow.begun (with_sights sizes es vs) h.legal)
-          (λ k l s. named.unended (with_sights sizes es vs) k h.legal l s))
+      (λ k l s. named.unended (with_sights sizes es vs) k h.legal l s))
 
   pub ended_sights : LinesAreNamed → (line behind : List ℕ) → cut_at 10 rest ≡ line ∷ cut_at 10 behind → line ≡ codes "end" → lines_of text ≡ journal_lines (with_sights sizes es vs) ++ cut_at 10 behind
   ended_sights named line behind e last = lines_here ∙ (ap (λ (z : Lines). begun_lines (with_sights sizes es vs) ++ z) e
@@ -67,12 +67,12 @@ module _ (sizes : Sizes) (es : List (Entry Done)) (lines rest text : List ℕ) (
       → (GoesOnByRecord (with_sights sizes es vs) line → ⊥) → (GoesOnBySight (with_sights sizes es vs) line → ⊥) → IsFirstBadLine text number
   wrong_sight named grow line behind e no_end no_record no_sight = let p = cut_some 10 behind in subst (IsFirstBadLine text) number_here
       (named.wrong text (begun_lines (with_sights sizes es vs)) line p.first p.others
-          (lines_here ∙ ap (λ (z : Lines). begun_lines (with_sights sizes es vs) ++ z) (e ∙ ap (λ (z : Lines). line ∷ z) p.parts))
-          (grow.begun (with_sights sizes es vs) h.legal)
-          (λ b. elim ((grow.on (with_sights sizes es vs) h.legal line).0 b) [
-            | inl last ↦ no_end last
-            | inr more ↦ elim more [ inl g ↦ no_record g | inr g ↦ no_sight g ]
-          ]))
+      (lines_here ∙ ap (λ (z : Lines). begun_lines (with_sights sizes es vs) ++ z) (e ∙ ap (λ (z : Lines). line ∷ z) p.parts))
+      (grow.begun (with_sights sizes es vs) h.legal)
+      (λ b. elim ((grow.on (with_sights sizes es vs) h.legal line).0 b) [
+        | inl last ↦ no_end last
+        | inr more ↦ elim more [ inl g ↦ no_record g | inr g ↦ no_sight g ]
+      ]))
 
 pub follows_here : SightsFollow → WhatSuits → (sizes : Sizes) (es : List (Entry Done)) (vs : List (Seen Done)) → IsLegalJournal (with_sights sizes es vs) → (line : List ℕ) (g : GoesOnBySight (with_sights sizes es vs) line)
     → FollowsHere sizes es vs g.seen × IsReadableSight g.seen
@@ -90,7 +90,12 @@ pub one_sight : SightsFollow → WhatSuits → (sizes : Sizes) (es : List (Entry
 one_sight follow suits sizes es lines rest line behind number vs v h readable text cutting f = record {
   legal = (suits.sights (with_sights sizes es vs) h.legal v).1 ((follow (with_sights sizes es vs) h.legal v).1 (record {
     writable = let c = readable.caller in record { caller = omega arith; after = readable.after; place = readable.place; end = short_end v.end readable.end; dones = writable_calls v.dones readable.dones };
-    within = f.within; order = f.order; rising = f.rising; consistent = f.consistent; after = f.after }));
+    within = f.within;
+    order = f.order;
+    rising = f.rising;
+    consistent = f.consistent;
+    after = f.after;
+  }));
   lines_are = h.lines_are ∙ (ap (λ (z : Lines). map sight_text vs ++ z) (cutting ∙ ap (λ (z : List ℕ). z ∷ cut_at 10 behind) (sym text)) ∙ sym (sights_more vs v (cut_at 10 behind)));
   number_is = let n = h.number_is in omega (arith, n, length-append vs (v ∷ []));
 }

@@ -1,5 +1,5 @@
 -- What a verdict says of a text.
-use Rattle.std.specs.Prelude.{◌∷◌, Some, ◌≡◌, ℕ, ◌+◌, Bool, IsTrue, List, ◌++◌, length, map}
+use Rattle.std.specs.Prelude.{◌∷◌, ◌≤◌, Some, ◌≡◌, ℕ, ◌+◌, Bool, IsTrue, List, ◌++◌, length, map}
 use Rattle.serial_terms.specs.declared.call.Done.{Done}
 use Rattle.serial_terms.specs.Entries.{Entry}
 use Rattle.serial_terms.specs.Histories.{IsLegalHistory, entry_of}
@@ -51,4 +51,4 @@ IsNoRecord text = (line : List ℕ) (behind : List (List ℕ)) → cut_at 10 tex
 -- the text is judged; or its records are read, and the line behind them is no record's, in a journal that may have sights
 abbrev pub IsOutcome : List ℕ → Bool → Sizes → List ℕ → Outcome → Type 0
 IsOutcome text second sizes lines (Judged v) = IsVerdict text v
-IsOutcome text second sizes lines (Sights rest line records) = IsTrue second × HasRead second sizes lines rest.now line (map entry_of records.items) × IsNoRecord rest.now
+IsOutcome text second sizes lines (Sights rest line records) = IsTrue second × HasRead second sizes lines rest.now line (map entry_of records.items) × IsNoRecord rest.now × (line + length rest.now ≤ 3 + length lines)

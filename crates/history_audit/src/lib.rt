@@ -18,4 +18,4 @@ mod words;
 
 pub use lines::{Sizes, opening, record};
 pub use sights::sight;
-pub use verdict::{Outcome, Verdict, judge_records};
+pub use verdict::{Verdict, audit};

@@ -2,22 +2,22 @@
 ghost use Rattle.std.specs.Prelude.{◌≡◌, ◌↔◌, ◌∷◌, ◌++◌, ◌<◌, ◌+◌, ◌^◌, ℕ, List, length, IfOk, IfSome, MatchOption, Some, None};
 ghost use Rattle.std.specs.Option.{option_map};
 ghost use Rattle.journal_terms.specs.Growing.{without_sights};
-ghost use Rattle.journal_terms.specs.Legal.{AreSizes, IsLegalJournal, lines_of};
+ghost use Rattle.journal_terms.specs.Legal.{AreSizes, IsFirstBadLine, IsLegalJournal, lines_of};
 ghost use Rattle.journal_terms.specs.Reading.{cut_at};
 ghost use Rattle.journal_terms.specs.Text.{Journal, begun_lines, journal_lines, sights_in, sizes_text, title};
 ghost use Rattle.history_audit.specs.Heads.{sizes_of};
-ghost use Rattle.history_audit.specs.Verdicts.{IsNoRecord, IsOutcome, IsVerdict, with_records};
+ghost use Rattle.history_audit.specs.Verdicts.{IsLegalWith, IsNoRecord, IsOutcome, IsVerdict, with_records};
 ghost use Rattle.std.specs.Prelude.{Bool, IsTrue, map, true};
 ghost use Rattle.serial_terms.specs.Histories.{entry_of};
 
 use crate::ledger::Ledger;
-use crate::lines::{Sizes, record};
+use crate::lines::{Sizes, opening, record};
 use crate::replay::Replay;
 use crate::sights::sight;
 use crate::words::cut;
 use journal_terms::{
-    beginnings_are_legal_law, histories_grow_law, journals_grow_law, lines_are_named_law,
-    sights_follow_law, what_suits_law,
+    beginnings_are_legal_law, first_bad_lines_law, histories_grow_law, journals_grow_law,
+    lines_are_named_law, one_text_one_journal_law, sights_follow_law, what_suits_law,
 };
 use serial_terms::Record;
 use std::alloc::{AllocError, Global};
@@ -32,12 +32,12 @@ pub enum Verdict {
     No { line: u64 },
 }
 
-/// What the lines behind an opening come to, as far as they are records.
+// What the lines behind an opening come to, as far as they are records.
 #[derive(Debug, Drop)]
-pub enum Outcome<'t> {
-    /// The text is judged.
+enum Outcome<'t> {
+    // The text is judged.
     Judged(Verdict),
-    /// These records are legal, and `rest` begins with a line of this number that is no record's, in a journal that may have sights.
+    // These records are legal, and `rest` begins with a line of this number that is no record's, in a journal that may have sights.
     Sights {
         rest: &'t [u8],
         line: u64,
@@ -59,9 +59,8 @@ pub(crate) fn ended(behind: &[u8], number: u64, records: u64, sights: u64) -> Ve
     }
 }
 
-/// Judges the lines behind the title and the opening of a text, of which the first has the number 3, as far as they are records. `second`
-/// says that the title is that of the second version, whose sights aren't judged here. The verdict is of the whole text.
-pub fn judge_records(
+// Judges the lines behind the title and the opening of a text, of which the first has the number 3, as far as they are records.
+fn judge_records(
     alloc: Global,
     second: bool,
     sizes: Sizes,
@@ -111,7 +110,13 @@ pub fn judge_records(
 }
 
 // Judges the lines behind the records of a journal that may have sights.
-fn judge_sights(alloc: Global, sizes: Sizes, records: &[Record], lines: &[u8], first: u64) -> Result<Verdict, AllocError>
+fn judge_sights(
+    alloc: Global,
+    sizes: Sizes,
+    records: &[Record],
+    lines: &[u8],
+    first: u64,
+) -> Result<Verdict, AllocError>
     requires legal { IsLegalJournal (with_records true sizes (map entry_of records.now)) }
     requires behind { IsNoRecord lines.now }
     requires number { first ≡ 3 + length (map entry_of records.now) }
@@ -169,4 +174,60 @@ fn are_sizes(sizes: Sizes) -> bool
     let tasks = sizes.tasks <= 262_144;
     let groups = sizes.groups <= sizes.tasks;
     tasks && groups && sizes.findings >= 1 && sizes.findings <= 1_048_576
+}
+
+// The verdict on the text.
+fn judge(alloc: Global, text: &[u8]) -> Result<Verdict, AllocError>
+    requires { length text.now < 2 ^ 63 }
+    ensures { IfOk result (λ v. IsVerdict text.now v) }
+{
+    beginnings_are_legal_law();
+    lines_are_named_law();
+    let (line, behind) = cut(b'\n', text);
+    let behind = match behind {
+        None => return Ok(Verdict::No { line: 1 }),
+        Some(behind) => behind,
+    };
+    let second = match version(line) {
+        None => return Ok(Verdict::No { line: 1 }),
+        Some(second) => second,
+    };
+    let (sizes_line, rest) = cut(b'\n', behind);
+    let rest = match rest {
+        None => return Ok(Verdict::No { line: 2 }),
+        Some(rest) => rest,
+    };
+    let sizes = match opening(sizes_line) {
+        None => return Ok(Verdict::No { line: 2 }),
+        Some(sizes) => sizes,
+    };
+    let fit = are_sizes(sizes);
+    if !fit {
+        return Ok(Verdict::No { line: 2 });
+    }
+    match judge_records(alloc, second, sizes, rest)? {
+        Outcome::Judged(verdict) => Ok(verdict),
+        Outcome::Sights {
+            rest,
+            line,
+            records,
+        } => {
+            let verdict = judge_sights(alloc, sizes, records.as_slice(), rest, line)?;
+            Ok(verdict)
+        }
+    }
+}
+
+/// Whether some legal run may have written the text as its journal, of either version: `Yes` exactly for the texts of legal journals, with
+/// the numbers of their records and sights, and else `No` with the first line, counted from 1, up to which the text begins no legal
+/// journal. Where the text ends too early, that is the last line if it isn't ended, and else the missing one behind it. An `Err` is want of
+/// memory.
+pub fn audit(alloc: Global, text: &[u8]) -> Result<Verdict, AllocError>
+    ensures yes { IfOk result (λ v. (r s : ℕ) → (v ≡ Verdict.Yes r s) ↔ IsLegalWith text.now r s) }
+    ensures no { IfOk result (λ v. (n : ℕ) → (v ≡ Verdict.No n) ↔ IsFirstBadLine text.now n) }
+{
+    first_bad_lines_law();
+    one_text_one_journal_law();
+    let verdict = judge(alloc, text)?;
+    Ok(verdict)
 }

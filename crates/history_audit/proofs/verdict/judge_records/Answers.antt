@@ -100,17 +100,21 @@ lines-preserved c = let r = c.lines.invariant.read in
           read_on c.what_suits_law.ensures c.histories_grow_law.ensures c.args.second c.args.sizes c.args.lines.now c.lines.rest.now c.cut.result.0.now c.in-Some.behind.now c.lines.number r.0 r.1.0 e grown.after.0
               reads.0 reads.1 (rw c.in-Some.is at c.cut.ensures.cut)
               (subst (λ (z : Sizes). IsRecordIn (layout_of z) e) c.lines.invariant.sizes grown.within) grown.next grown.after.1,
-          grown.after.2, ap (map entry_of) c.in_ok-push.ensures.items ∙ (entries_more c.lines.records.items c.in-Some-2.record ∙ ap (λ (xs : List (Entry Done)). xs ++ e ∷ []) r.1.2)),
+          grown.after.2,
+          ap (map entry_of) c.in_ok-push.ensures.items ∙ (entries_more c.lines.records.items c.in-Some-2.record ∙ ap (λ (xs : List (Entry Done)). xs ++ e ∷ []) r.1.2),
+        ),
       );
       bound = let low = c.lines.invariant.bound in omega (arith, low, shorter);
     }
 
 pub returns-in-None-2 : goal.returns-in-None-2
-returns-in-None-2 c = λ text all. let r = c.lines.invariant.read in
-    (c.if-second.true,
-    subst (λ (es : List (Entry Done)). HasRead c.args.second c.args.sizes c.args.lines.now c.lines.rest.now c.lines.number es) (sym r.1.2) r.1.0,
-    λ line behind cutting e readable text_is.
-        let both : c.cut.result.0.now ∷ cut_at 10 c.in-Some.behind.now ≡ line ∷ behind = sym (rw c.in-Some.is at c.cut.ensures.cut) ∙ cutting in
-        let same : line ≡ c.cut.result.0.now = cc in
-        let found : option_map entry_of c.in_ok-record.field-0 ≡ Some e = (c.in_ok-record.ensures e).1 (readable, text_is ∙ same) in
-        let bad : None ≡ Some e = sym (ap (option_map entry_of) c.in-None-2.is) ∙ found in absurd (cc bad))
+returns-in-None-2 c = λ text all. let r = c.lines.invariant.read in (
+  c.if-second.true,
+  subst (λ (es : List (Entry Done)). HasRead c.args.second c.args.sizes c.args.lines.now c.lines.rest.now c.lines.number es) (sym r.1.2) r.1.0,
+  λ line behind cutting e readable text_is.
+      let both : c.cut.result.0.now ∷ cut_at 10 c.in-Some.behind.now ≡ line ∷ behind = sym (rw c.in-Some.is at c.cut.ensures.cut) ∙ cutting in
+      let same : line ≡ c.cut.result.0.now = cc in
+      let found : option_map entry_of c.in_ok-record.field-0 ≡ Some e = (c.in_ok-record.ensures e).1 (readable, text_is ∙ same) in
+      let bad : None ≡ Some e = sym (ap (option_map entry_of) c.in-None-2.is) ∙ found in absurd (cc bad),
+  c.lines.invariant.bound,
+)
