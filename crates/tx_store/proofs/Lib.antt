@@ -4,3 +4,4 @@ pub mod Telling
 pub mod PoolCalls
 pub mod CellCalls
 pub mod Knowing
+pub mod LogCalls

@@ -6,6 +6,7 @@
 
 mod cells;
 mod history;
+mod logs;
 mod notes;
 mod parts;
 mod pass;

@@ -2,6 +2,7 @@
 ghost use Rattle.std.specs.Prelude.{◌≡◌, ◌*◌, ◌-◌, ◌^◌, ◌<◌, ◌++◌, ◌≤◌, false, [], ◌∷◌, length, get_or, IfOk, IfErr};
 
 use crate::cells::{get_cell, put_cell};
+use crate::logs::{append_value, length_of, value_at};
 use crate::pass::StorePass;
 use crate::pools::{give_item, take_item};
 use crate::store::Store;
@@ -39,9 +40,9 @@ impl<'a, P: Purpose> StoreTx<'a, P> {
     ghost use Rattle.tx_core.specs.Calls.{MayCall, NothingWaits, stop_in, memory_in};
     ghost use Rattle.tx_core.specs.declared.stop.TxState.TheVariants.{Running};
     ghost use Rattle.serial_terms.specs.Serial.{found};
-    ghost use Rattle.serial_terms.specs.declared.call.Call.TheVariants.{CellGet, CellPut, Take, Give};
+    ghost use Rattle.serial_terms.specs.declared.call.Call.TheVariants.{CellGet, CellPut, Take, Give, Append, LogRead, LogLen};
     ghost use Rattle.serial_terms.specs.declared.call.Reply.TheVariants.{Nothing, Value, Flag};
-    ghost use Rattle.store_layout.specs.Shapes.{the_cell, the_pool};
+    ghost use Rattle.store_layout.specs.Shapes.{the_cell, the_pool, the_log};
     ghost use Rattle.store_parts.specs.Parts.{noted};
     ghost use Rattle.tx_store.specs.Attempts.{Tells};
     ghost use Rattle.tx_store.specs.Stores.{IsPassOfStore};
@@ -152,5 +153,39 @@ impl<'a, P: Purpose> StoreTx<'a, P> {
     {
         let plan = self.store.plan();
         give_item(&mut self.tx, plan, pool, value, from)
+    }
+
+    /// Adds a value below 2^64 - 1 to the end of a log when the attempt commits. It looks at nothing, and is noted. After want of
+    /// memory nothing is noted, and the attempt is stopped.
+    pub fn log_append(&mut self, log: u32, value: u64) -> Result<(), AllocError>
+        requires callable { MayCall self.old.attempt }
+        requires log { log < length self.old.store.table.meaning.plan.logs }
+        requires value { value < 2 ^ 64 - 1 }
+        ensures { IsCalled self.old.store.table.meaning.plan (the_log log) 0 self.old self.new (done_in (λ _. noted (Append log value) Nothing (in_child self.old.attempt.state) 0) result) (memory_in result) }
+    {
+        let plan = self.store.plan();
+        append_value(&mut self.tx, plan, log, value)
+    }
+
+    /// The value at place `i` of a log, or `None` where the log isn't that long, the attempt's own additions counted. It is
+    /// noted. After a stop nothing is noted, and the attempt is stopped.
+    pub fn log_read(&mut self, log: u32, i: u64) -> Result<Option<u64>, Stop>
+        requires callable { MayCall self.old.attempt }
+        requires log { log < length self.old.store.table.meaning.plan.logs }
+        ensures { IsCalled self.old.store.table.meaning.plan (the_log log) 6 self.old self.new (done_in (λ x. noted (LogRead log i) (found x) (in_child self.old.attempt.state) 0) result) (stop_in result) }
+    {
+        let plan = self.store.plan();
+        value_at(&mut self.tx, plan, log, i)
+    }
+
+    /// How many values a log has, the attempt's own additions counted. It is noted. After a stop nothing is noted, and the
+    /// attempt is stopped.
+    pub fn log_len(&mut self, log: u32) -> Result<u64, Stop>
+        requires callable { MayCall self.old.attempt }
+        requires log { log < length self.old.store.table.meaning.plan.logs }
+        ensures { IsCalled self.old.store.table.meaning.plan (the_log log) 3 self.old self.new (done_in (λ n. noted (LogLen log) (Value n) (in_child self.old.attempt.state) 0) result) (stop_in result) }
+    {
+        let plan = self.store.plan();
+        length_of(&mut self.tx, plan, log)
     }
 }
