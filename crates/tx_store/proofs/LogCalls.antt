@@ -59,3 +59,10 @@ module _ {M : Type 0} (old new : Attempt M NamedDone) where
     committing = ap (λ (a : Attempt M NamedDone). a.committing) is;
     notes = ap (λ (a : Attempt M NamedDone). a.notes) is;
   }
+
+  pub goes_placed : new ≡ record old { pass = new.pass; state = new.state; observations = new.observations; versions = new.versions; additions = new.additions; spare = new.spare } → Goes old new
+  goes_placed is = record {
+    table = ap (λ (a : Attempt M NamedDone). a.table) is;
+    committing = ap (λ (a : Attempt M NamedDone). a.committing) is;
+    notes = ap (λ (a : Attempt M NamedDone). a.notes) is;
+  }

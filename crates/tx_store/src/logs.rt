@@ -1,6 +1,6 @@
 //! The calls of logs.
 ghost use Rattle.std.specs.Prelude.{◌≡◌, ◌-◌, ◌^◌, ◌<◌, length};
-ghost use Rattle.serial_terms.specs.declared.call.Call.TheVariants.{Append, LogRead, LogLen};
+ghost use Rattle.serial_terms.specs.declared.call.Call.TheVariants.{Append, AppendPlaced, LogRead, LogLen};
 ghost use Rattle.serial_terms.specs.declared.call.Reply.TheVariants.{Nothing, Value};
 ghost use Rattle.serial_terms.specs.Serial.{found};
 ghost use Rattle.store_layout.specs.Shapes.{the_log, cells_of};
@@ -89,6 +89,37 @@ pub(crate) fn value_at<P: Purpose>(
     };
     match note_call(tx, Call::LogRead { log, i }, reply_of(value), 0) {
         Ok(()) => Ok(value),
+        Err(AllocError) => Err(Stop::Memory),
+    }
+}
+
+/// Adds a value to the end of a log when the attempt commits, and answers its place.
+pub(crate) fn append_placed<P: Purpose>(
+    tx: &mut Tx<'_, StoreMeaning<P>>,
+    plan: &CellPlan,
+    log: u32,
+    value: u64,
+) -> Result<u64, Stop>
+    requires callable { MayCall tx.old }
+    requires sized { length tx.old.table.opening ≡ cells_of plan.now }
+    requires log { log < length plan.now.logs }
+    requires value { value < 2 ^ 64 - 1 }
+    ensures { Makes P.Keys.passes plan.now (the_log log) 3 tx.old tx.new (done_in (λ n. noted (AppendPlaced log value) (Value n) (in_child tx.old.state) 0) result) (stop_in result) }
+{
+    attempts_follow_law();
+    let part = log_of(plan, log);
+    log_calls_law(&part);
+    let place = match part.append_placed(tx, value) {
+        Ok(place) => place,
+        Err(stop) => return Err(stop),
+    };
+    match note_call(
+        tx,
+        Call::AppendPlaced { log, value },
+        Reply::Value(place),
+        0,
+    ) {
+        Ok(()) => Ok(place),
         Err(AllocError) => Err(Stop::Memory),
     }
 }

@@ -2,7 +2,7 @@
 ghost use Rattle.std.specs.Prelude.{◌≡◌, ◌*◌, ◌-◌, ◌^◌, ◌<◌, ◌++◌, ◌≤◌, false, [], ◌∷◌, length, get_or, IfOk, IfErr};
 
 use crate::cells::{get_cell, put_cell};
-use crate::logs::{append_value, length_of, value_at};
+use crate::logs::{append_placed, append_value, length_of, value_at};
 use crate::pass::StorePass;
 use crate::pools::{give_item, take_item};
 use crate::store::Store;
@@ -40,7 +40,7 @@ impl<'a, P: Purpose> StoreTx<'a, P> {
     ghost use Rattle.tx_core.specs.Calls.{MayCall, NothingWaits, stop_in, memory_in};
     ghost use Rattle.tx_core.specs.declared.stop.TxState.TheVariants.{Running};
     ghost use Rattle.serial_terms.specs.Serial.{found};
-    ghost use Rattle.serial_terms.specs.declared.call.Call.TheVariants.{CellGet, CellPut, Take, Give, Append, LogRead, LogLen};
+    ghost use Rattle.serial_terms.specs.declared.call.Call.TheVariants.{CellGet, CellPut, Take, Give, Append, AppendPlaced, LogRead, LogLen};
     ghost use Rattle.serial_terms.specs.declared.call.Reply.TheVariants.{Nothing, Value, Flag};
     ghost use Rattle.store_layout.specs.Shapes.{the_cell, the_pool, the_log};
     ghost use Rattle.store_parts.specs.Parts.{noted};
@@ -187,5 +187,17 @@ impl<'a, P: Purpose> StoreTx<'a, P> {
     {
         let plan = self.store.plan();
         length_of(&mut self.tx, plan, log)
+    }
+
+    /// Adds a value below 2^64 - 1 to the end of a log when the attempt commits, and answers the place that it will have, for which
+    /// the log's end is held from now on. It is noted. After a stop nothing is noted, and the attempt is stopped.
+    pub fn log_append_placed(&mut self, log: u32, value: u64) -> Result<u64, Stop>
+        requires callable { MayCall self.old.attempt }
+        requires log { log < length self.old.store.table.meaning.plan.logs }
+        requires value { value < 2 ^ 64 - 1 }
+        ensures { IsCalled self.old.store.table.meaning.plan (the_log log) 3 self.old self.new (done_in (λ n. noted (AppendPlaced log value) (Value n) (in_child self.old.attempt.state) 0) result) (stop_in result) }
+    {
+        let plan = self.store.plan();
+        append_placed(&mut self.tx, plan, log, value)
     }
 }
