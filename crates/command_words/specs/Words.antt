@@ -5,7 +5,7 @@ use Rattle.std.specs.Option.{option_map, option_map_or, unwrap_or}
 use Rattle.std.specs.Str.{bytes_eq}
 use Rattle.std.specs.Str.Parse.{digits_value}
 use Rattle.command_words.specs.declared.command.Command.{Command}
-use Rattle.command_words.specs.declared.command.Command.TheVariants.{Unknown, Inspect}
+use Rattle.command_words.specs.declared.command.Command.TheVariants.{Unknown, Inspect, Audit}
 use Rattle.command_words.specs.declared.command.FileNames.{FileNames}
 use Rattle.command_words.specs.declared.command.Settings.{Settings}
 use Rattle.command_words.specs.declared.options.Options.{Options}
@@ -18,15 +18,17 @@ pub record Names : Type 0 where
 abbrev pub names_of : FileNames → Names
 names_of names = record { rules = names.rules.now; capture = names.capture.now }
 
--- what is asked of the program: nothing that it knows, or to inspect the files of these names with
--- these settings
+-- what is asked of the program: nothing that it knows, to inspect the files of these names with these
+-- settings, or to judge the journal of this name
 pub data Asked : Type 0 where
   unknown : Asked
   inspect : Names → Settings → Asked
+  audit : List ℕ → Asked
 
 abbrev pub asked_of : Command → Asked
 asked_of Unknown = unknown
 asked_of (Inspect names settings) = inspect (names_of names) settings
+asked_of (Audit journal) = audit journal.now
 
 -- The words of an inspection.
 
@@ -70,8 +72,17 @@ inspection_by options (word ∷ value ∷ other ∷ words) =
 abbrev pub no_options : Options
 no_options = record { window = None }
 
+-- the audit of a journal: one name
+unfoldable pub audit_by : List (List ℕ) → Asked
+audit_by (journal ∷ []) = if is_name journal then audit journal else unknown
+audit_by words = unknown
+
 -- what the words behind the program's own name ask for, where they are one of these:
 --     inspect [--window N] RULES CAPTURE
+--     audit JOURNAL
 unfoldable pub asked_by : List (List ℕ) → Asked
 asked_by [] = unknown
-asked_by (command ∷ words) = if bytes_eq command (codes "inspect") then inspection_by no_options words else unknown
+asked_by (command ∷ words) =
+    if bytes_eq command (codes "inspect") then inspection_by no_options words
+    else if bytes_eq command (codes "audit") then audit_by words
+    else unknown

@@ -1,6 +1,6 @@
 // The commands, and the words that they are written by.
 ghost use Rattle.std.specs.Prelude.{◌≡◌, map, string_bytes};
-ghost use Rattle.command_words.specs.Words.{is_name, inspection_of, inspection_by, settings_by, asked_by, asked_of};
+ghost use Rattle.command_words.specs.Words.{is_name, inspection_of, inspection_by, settings_by, audit_by, asked_by, asked_of};
 
 use crate::options::Options;
 
@@ -35,6 +35,10 @@ pub enum Command<'a> {
     Inspect {
         names: FileNames<'a>,
         settings: Settings,
+    },
+    /// Judge the journal of this name, and write the verdict.
+    Audit {
+        journal: &'a str,
     },
 }
 
@@ -86,8 +90,22 @@ fn inspection_by(options: Options, words: &[String]) -> Command<'_>
     }
 }
 
-/// What the words behind the program's own name ask for: `inspect [--window N] RULES CAPTURE`, with
-/// names that aren't empty and don't begin with two dashes. All other words are `Unknown`.
+// What these words behind `audit` ask for: one name.
+#[tactic(auto, unfolding(crate::specs::Words::audit_by))]
+fn audit_by(words: &[String]) -> Command<'_>
+    ensures { asked_of result ≡ audit_by (map (λ w. string_bytes w) words.now) }
+{
+    match words {
+        [journal] if can_name(journal.as_str()) => Command::Audit {
+            journal: journal.as_str(),
+        },
+        _ => Command::Unknown,
+    }
+}
+
+/// What the words behind the program's own name ask for: `inspect [--window N] RULES CAPTURE` or
+/// `audit JOURNAL`, with names that aren't empty and don't begin with two dashes. All other words are
+/// `Unknown`.
 #[tactic(auto, unfolding(crate::specs::Words::asked_by))]
 pub fn command_of(words: &[String]) -> Command<'_>
     ensures { asked_of result ≡ asked_by (map (λ w. string_bytes w) words.now) }
@@ -96,6 +114,7 @@ pub fn command_of(words: &[String]) -> Command<'_>
         [command, rest @ ..] if command.as_str() == "inspect" => {
             inspection_by(Options { window: None }, rest)
         }
+        [command, rest @ ..] if command.as_str() == "audit" => audit_by(rest),
         _ => Command::Unknown,
     }
 }

@@ -66,8 +66,21 @@ fn a_window_is_a_number_of_seconds_and_given_once(rt: HostRuntime) -> Result<(),
 }
 
 #[test]
+fn an_audit_is_read_from_its_words(rt: HostRuntime) -> Result<(), Fail> {
+    for name in ["j", "-", "audit", "a journal"] {
+        let words = list(rt.alloc(), &["audit", name])?;
+        let Command::Audit { journal } = command_of(&words) else {
+            assert!(rt; false, "an audit");
+            return Ok(());
+        };
+        assert_eq!(rt; journal, name);
+    }
+    Ok(())
+}
+
+#[test]
 fn other_words_are_unknown(rt: HostRuntime) -> Result<(), Fail> {
-    let lists: [&[&str]; 16] = [
+    let lists: [&[&str]; 22] = [
         &[],
         &["inspect"],
         &["inspect", "r"],
@@ -82,6 +95,12 @@ fn other_words_are_unknown(rt: HostRuntime) -> Result<(), Fail> {
         &["Inspect", "r", "c"],
         &["journal", "r", "c"],
         &["make", "9", "0"],
+        &["audit"],
+        &["audit", ""],
+        &["audit", "--j"],
+        &["audit", "j", "k"],
+        &["audit", "--window", "30", "j"],
+        &["Audit", "j"],
         &["--help"],
         &["--version"],
     ];
