@@ -3,7 +3,7 @@
 use Rattle.std.specs.Prelude.{ℕ, List, [], ◌∷◌, ◌++◌, codes}
 use Rattle.std.specs.Fmt.{decimal}
 use Rattle.report.specs.declared.fault.Fault.{Fault}
-use Rattle.report.specs.declared.fault.Fault.TheVariants.{Usage, Read, Write, Rules, Capture, LimitFile, LimitFrames, LimitRules, LimitFindings, Memory}
+use Rattle.report.specs.declared.fault.Fault.TheVariants.{Usage, Read, Write, Rules, Capture, LimitFile, LimitFrames, LimitRules, LimitFindings, Memory, NotLegal}
 use Rattle.capture_terms.specs.declared.capture.CaptureFault.{CaptureFault}
 use Rattle.capture_terms.specs.declared.capture.CaptureFault.TheVariants.{Header, Version, Link, Record, Block, MixedLink, BlockVersion, BlockLink}
 use Rattle.report.specs.declared.fault.Detail.{Detail}
@@ -21,6 +21,7 @@ pub data Cause : Type 0 where
   many_rules : Cause
   many_findings : Cause
   no_memory : Cause
+  not_legal : ℕ → Cause
 
 abbrev pub cause_of : Fault → Cause
 cause_of Usage = no_command
@@ -33,6 +34,7 @@ cause_of LimitFrames = many_frames
 cause_of LimitRules = many_rules
 cause_of LimitFindings = many_findings
 cause_of Memory = no_memory
+cause_of (NotLegal line) = not_legal line
 
 -- the status that the program ends with
 abbrev pub status_of : Cause → ℕ
@@ -46,6 +48,7 @@ status_of many_frames = 6
 status_of many_rules = 6
 status_of many_findings = 6
 status_of no_memory = 7
+status_of (not_legal line) = 9
 
 abbrev pub number_at : ℕ → ℕ → List ℕ
 number_at number at = decimal number ++ codes " at " ++ decimal at
@@ -62,7 +65,7 @@ capture_words (BlockLink number at) = codes "link " ++ number_at number at
 
 -- what is told of it
 abbrev pub words_of : Cause → List ℕ
-words_of no_command = codes "usage: inspect|journal [--workers N] [--findings N] [--window N] RULES CAPTURE | make SEED FRAMES | trial [--workers N] SEED FRAMES"
+words_of no_command = codes "usage: inspect|journal [--workers N] [--findings N] [--window N] RULES CAPTURE | make SEED FRAMES | trial [--workers N] SEED FRAMES | audit JOURNAL"
 words_of (unread name) = codes "read fault: " ++ name
 words_of unwritten = codes "write fault"
 words_of (bad_line line) = codes "bad rules: line " ++ decimal line
@@ -72,6 +75,7 @@ words_of many_frames = codes "limit: frames"
 words_of many_rules = codes "limit: rules"
 words_of many_findings = codes "limit: findings"
 words_of no_memory = codes "want of memory"
+words_of (not_legal line) = codes "not legal: line " ++ decimal line
 
 -- its line, with the line feed
 abbrev pub line_of : Cause → List ℕ

@@ -26,6 +26,8 @@ pub enum Fault<'a> {
     LimitFindings,
     /// Memory ran out.
     Memory,
+    /// The journal is no legal one, and this line, counted from 1, is the first up to which it begins none.
+    NotLegal { line: u64 },
 }
 
 impl Fault<'_> {
@@ -42,6 +44,7 @@ impl Fault<'_> {
             Fault::LimitFile(_) | Fault::LimitFrames | Fault::LimitRules | Fault::LimitFindings =>
                 6,
             Fault::Memory => 7,
+            Fault::NotLegal { .. } => 9,
         }
     }
 }

@@ -10,7 +10,7 @@ use capture_terms::CaptureFault;
 use itoa::Buffer;
 
 const USAGE: &[u8] =
-    b"usage: inspect|journal [--workers N] [--findings N] [--window N] RULES CAPTURE | make SEED FRAMES | trial [--workers N] SEED FRAMES";
+    b"usage: inspect|journal [--workers N] [--findings N] [--window N] RULES CAPTURE | make SEED FRAMES | trial [--workers N] SEED FRAMES | audit JOURNAL";
 
 /// Appends the line of a fault, with its line feed. It takes no memory.
 ///
@@ -111,5 +111,6 @@ fn parts_of<'a>(fault: &Fault<'a>) -> (&'static [u8], Detail<'a>, &'static [u8])
         Fault::LimitRules => (b"limit: rules", Detail::Text(b""), b"\n"),
         Fault::LimitFindings => (b"limit: findings", Detail::Text(b""), b"\n"),
         Fault::Memory => (b"want of memory", Detail::Text(b""), b"\n"),
+        Fault::NotLegal { line } => (b"not legal: line ", Detail::Number(line), b"\n"),
     }
 }

@@ -1,11 +1,13 @@
 //! The texts that the program writes: the report of a capture's inspection, and the line of a fault.
 #![tactic(auto)]
 
+mod audit_line;
 mod fault;
 mod fault_line;
 mod finding;
 mod report_lines;
 
+pub use audit_line::audit_text;
 pub use capture_terms::CaptureFault;
 pub use fault::Fault;
 pub use fault_line::write_fault;

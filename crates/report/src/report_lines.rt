@@ -124,7 +124,7 @@ fn push_finding(text: &mut Vec<u8>, rules: &Rules, finding: u64) -> Result<(), A
     Ok(())
 }
 
-fn push_number(text: &mut Vec<u8>, number: u64) -> Result<(), AllocError>
+pub(crate) fn push_number(text: &mut Vec<u8>, number: u64) -> Result<(), AllocError>
     ensures { OnOk result (text.new.items ≡ text.old.items ++ decimal number) }
 {
     let mut buffer = Buffer::new();

@@ -1,4 +1,4 @@
-use crate::{CaptureFault, Fault, report_text, write_fault};
+use crate::{CaptureFault, Fault, audit_text, report_text, write_fault};
 use byte_ends::{Failed, MemorySink};
 use capture_terms::{Capture, Class, Frame, Group, Header, Plan};
 use rule_matcher::rules;
@@ -224,10 +224,10 @@ fn a_report_has_eleven_counts_and_a_line_for_each_finding(rt: HostRuntime) -> Re
 
 #[test]
 fn each_fault_is_told_by_its_line(rt: HostRuntime) -> Result<(), Fail> {
-    let lines: [(Fault<'static>, &str); 17] = [
+    let lines: [(Fault<'static>, &str); 18] = [
         (
             Fault::Usage,
-            "usage: inspect|journal [--workers N] [--findings N] [--window N] RULES CAPTURE | make SEED FRAMES | trial [--workers N] SEED FRAMES\n",
+            "usage: inspect|journal [--workers N] [--findings N] [--window N] RULES CAPTURE | make SEED FRAMES | trial [--workers N] SEED FRAMES | audit JOURNAL\n",
         ),
         (Fault::Read("r"), "read fault: r\n"),
         (Fault::Write, "write fault\n"),
@@ -272,6 +272,7 @@ fn each_fault_is_told_by_its_line(rt: HostRuntime) -> Result<(), Fail> {
         (Fault::LimitRules, "limit: rules\n"),
         (Fault::LimitFindings, "limit: findings\n"),
         (Fault::Memory, "want of memory\n"),
+        (Fault::NotLegal { line: 4 }, "not legal: line 4\n"),
     ];
     for (fault, line) in &lines {
         let mut sink = MemorySink::new(rt.alloc(), 200, Vec::new(rt.alloc()))?;
@@ -297,6 +298,18 @@ fn a_prefix_is_left_where_writing_fails(rt: HostRuntime) -> Result<(), Fail> {
         };
         assert_eq!(rt; write_fault(&mut sink, &fault), Err(Failed));
         assert_eq!(rt; sink.written(), want.as_bytes());
+    }
+    Ok(())
+}
+
+#[test]
+fn an_audit_tells_its_records_and_sights(rt: HostRuntime) -> Result<(), Fail> {
+    for (records, sights, want) in [
+        (7, 0, "yes 7 0\n"),
+        (0, 18_446_744_073_709_551_615, "yes 0 18446744073709551615\n"),
+    ] {
+        let text = audit_text(rt.alloc(), records, sights)?;
+        assert_eq!(rt; text.as_slice(), want.as_bytes());
     }
     Ok(())
 }
