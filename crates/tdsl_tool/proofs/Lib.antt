@@ -7,3 +7,4 @@ pub mod MemberSteps
 pub mod IncompleteGroups
 pub mod FindingSteps
 pub mod Ran
+pub mod Audited

@@ -7,7 +7,8 @@ use Rattle.command_words.specs.Words.{Names, inspect, asked_by}
 use Rattle.command_words.specs.declared.command.Settings.{Settings}
 use Rattle.report.specs.Fault.{Cause, no_command, unread, unwritten, bad_line, bad_capture, long_file, many_frames, many_rules, many_findings, no_memory, status_of}
 use Rattle.tdsl_tool.specs.Verdict.{max_file, reports, stops, RuleFile, rules_are, rules_refused, HasBadLine, HasManyRules, IsRuleFile, RuleFileIsOne, CaptureFile, IsCaptureFile, SomeAnswerOf, VerdictIsOne, verdict_status}
-use Rattle.tdsl_tool.specs.Run.{Reading, Writing, HasFailed, IsFaulty, Run, reading, EndsBy, Exactly, HasStatus, Decides, Inspected, Ran, IsOfRules, IfRulesTold, StopsAtRules, StopsAtCapture, StopsAt, IsReported, IsCutOff, Ending, finished, faulted, ending_status, EndsSo, Tells}
+use Rattle.tdsl_tool.specs.Commands.{Ran}
+use Rattle.tdsl_tool.specs.Run.{Reading, Writing, HasFailed, IsFaulty, Run, reading, EndsBy, Exactly, HasStatus, Decides, Inspected, IsOfRules, IfRulesTold, StopsAtRules, StopsAtCapture, StopsAt, IsReported, IsCutOff, Ending, finished, faulted, ending_status, EndsSo, Tells}
 
 -- each capture file is something
 some_capture_file : SomeAnswerOf → (name bytes : List ℕ) → (file : CaptureFile) × IsCaptureFile name bytes file
@@ -36,20 +37,20 @@ rule_status (rules_are rules) = 0
 rule_status (rules_refused cause) = status_of cause
 
 -- the status of the verdict that an ending follows from: a report that wasn't written counts as one
-abbrev decided : Ending → ℕ
+abbrev pub decided : Ending → ℕ
 decided (faulted unwritten) = 0
 decided ending = ending_status ending
 
-decided_is : (ending : Ending) → ((ending_status ending ≡ 3) × (decided ending ≡ 0)) ⊎ (decided ending ≡ ending_status ending)
+pub decided_is : (ending : Ending) → ((ending_status ending ≡ 3) × (decided ending ≡ 0)) ⊎ (decided ending ≡ ending_status ending)
 decided_is finished = inr refl
 decided_is (faulted unwritten) = inl (refl, refl)
 decided_is (faulted cause) = inr refl
 
 -- want of memory, or a failed read
-abbrev IsFree : ℕ → Type 0
+abbrev pub IsFree : ℕ → Type 0
 IsFree status = (status ≡ 7) ⊎ (status ≡ 2)
 
-some_status : (cause : Cause) → 0 < status_of cause
+pub some_status : (cause : Cause) → 0 < status_of cause
 some_status no_command = omega arith
 some_status cause = omega arith
 
@@ -213,7 +214,7 @@ module _ (one : VerdictIsOne) (some : SomeAnswerOf) (of : Reading) (out : Writin
           | inr (inr by) ↦ inl (is ∙ by.1 ∙ ap rule_status (one_file of.rules.name text (rules_refused by.0) (rules_refused cause) by.2 refused))
         ]
 
-quiet_cause : (sink : Writing) (ending : Ending) → Tells sink ending → ending_status ending ≡ 0 → sink.after ≡ sink.before
+pub quiet_cause : (sink : Writing) (ending : Ending) → Tells sink ending → ending_status ending ≡ 0 → sink.after ≡ sink.before
 quiet_cause sink finished tells is = tells
 quiet_cause sink (faulted cause) tells is = absurd (omega (arith, some_status cause))
 
@@ -246,4 +247,5 @@ ran_inspection one one_file some words run names settings ending asked is ends t
           subst (λ (n : Names). Inspected run (reading run.content run.before run.after n limit)) names_same
           (subst (λ (m : Settings). Inspected run (reading run.content run.before run.after names m)) settings_same
           (inspected one one_file some run here ending is ends tells));
+      audit_of = λ name are. absurd (cc (asked, are));
     }

@@ -5,7 +5,7 @@ use Rattle.byte_ends.specs.Told.{IfTold}
 use Rattle.capture_terms.specs.Capture.{Answer}
 use Rattle.rule_terms.specs.Rule.{Rule}
 use Rattle.rule_terms.specs.RuleText as rule_text
-use Rattle.report.specs.Fault.{Cause, no_command, unread, unwritten, bad_line, bad_capture, long_file, many_frames, many_rules, many_findings, no_memory}
+use Rattle.report.specs.Fault.{Cause, no_command, unread, unwritten, bad_line, bad_capture, long_file, many_frames, many_rules, many_findings, no_memory, not_legal}
 use Rattle.command_words.specs.declared.command.Settings.{Settings}
 use Rattle.tdsl_tool.specs.Verdict.{max_file, IsAnswerOf, Verdict, stops, IsVerdictUnder, rules_are, AreRules, capture_refused, file_of}
 use Rattle.tdsl_tool.specs.Run.{Source, HasFailed, Reading, IfRulesTold, ComesTo, StopsReading, StopsAtRules, StopsAtCapture, StopsUnder}
@@ -54,6 +54,7 @@ module _ (of : Reading) (rules : List Rule) (are : IfRulesTold of (λ text. AreR
   stops_unread file name told failed many_frames why = absurd why
   stops_unread file name told failed many_rules why = absurd why
   stops_unread file name told failed many_findings why = absurd why
+  stops_unread file name told failed (not_legal n) why = absurd why
 
   module _ (bytes : List ℕ) (whole : IfTold of.capture.told (λ told. bytes ≡ told)) where
     -- of bytes that are those of the file

@@ -2,3 +2,5 @@ pub mod Inspection
 pub mod Members
 pub mod Verdict
 pub mod Run
+pub mod Audit
+pub mod Commands

@@ -1,11 +1,11 @@
 -- How a run of the program ends, and what it leaves.
-use Rattle.std.specs.Prelude.{◌≡◌, ◌≢◌, ◌⊎◌, ◌↔◌, ℕ, ◌<◌, List, length, Option, Result, Ok, Err}
+use Rattle.std.specs.Prelude.{◌≡◌, ◌≢◌, ◌⊎◌, ℕ, ◌<◌, List, length, Option, Result, Ok, Err}
 use Rattle.byte_ends.specs.Told.{Rose, IfTold, Grows, GrowsByPrefix}
 use Rattle.rule_terms.specs.Rule.{Rule}
-use Rattle.command_words.specs.Words.{Names, unknown, inspect, asked_by}
+use Rattle.command_words.specs.Words.{Names}
 use Rattle.command_words.specs.declared.command.Settings.{Settings}
 use Rattle.report.specs.declared.fault.Fault.{Fault}
-use Rattle.report.specs.Fault.{Cause, no_command, unread, unwritten, bad_line, bad_capture, long_file, many_frames, many_rules, many_findings, no_memory, cause_of, status_of, line_of}
+use Rattle.report.specs.Fault.{Cause, unread, unwritten, bad_line, bad_capture, long_file, many_frames, many_rules, many_findings, no_memory, cause_of, status_of, line_of}
 use Rattle.tdsl_tool.specs.Verdict.{Verdict, reports, stops, IsVerdict, IsVerdictUnder, max_file, AreRules, HasBadLine, HasManyRules, rules_refused, IsRuleFile, verdict_status}
 
 -- The files and the sinks of a run.
@@ -194,11 +194,3 @@ pub record Inspected (run : Run) (of : Reading) : Type 0 where
   pub fault_line : (ending : Ending) × (run.status ≡ ending_status ending) × EndsSo of run.out ending × Tells run.faults ending
   -- with a status other than 0 and 3 nothing is written
   pub nothing_out : run.status ≢ 0 → run.status ≢ 3 → run.out.after ≡ run.out.before
-
--- what holds of a run for these words: which command they are, and what holds of a run of each
-pub record Ran (words : List (List ℕ)) (run : Run) : Type 0 where
-  -- 1 comes exactly where the words are no command
-  pub usage : (run.status ≡ 1) ↔ (asked_by words ≡ unknown)
-  -- then the usage is told, and nothing is written
-  pub usage_line : run.status ≡ 1 → TellsLine run.faults no_command × (run.out.after ≡ run.out.before)
-  pub inspection : (names : Names) (settings : Settings) → asked_by words ≡ inspect names settings → Inspected run (reading run.content run.before run.after names settings)

@@ -1,7 +1,9 @@
 //! Inspects captures of packets: `inspect [--window N] RULES CAPTURE` writes a report of what the rules
-//! find.
+//! find. Judges journals: `audit JOURNAL` tells whether a legal run may have written it.
 #![tactic(auto)]
 
+#[cfg(test)]
+mod audit_tests;
 #[cfg(test)]
 mod blocks_tests;
 #[cfg(test)]

@@ -4,13 +4,17 @@ ghost use Rattle.byte_ends.specs.Told.{IfTold};
 ghost use Rattle.command_words.specs.Words.{names_of};
 ghost use Rattle.report.specs.Fault.{cause_of, status_of};
 ghost use Rattle.tdsl_tool.specs.Verdict.{reports, max_file, AreRules};
-ghost use Rattle.tdsl_tool.specs.Run.{source, reading, writing, ComesTo, StopsReading, StopsAtRules, StopsAt, EndsSo, ending_of, ending_status, Tells, TellsLine, Ran};
+ghost use Rattle.tdsl_tool.specs.Run.{source, reading, writing, ComesTo, StopsReading, StopsAtRules, StopsAt, EndsSo, ending_of, ending_status, Tells, TellsLine};
+ghost use Rattle.tdsl_tool.specs.Audit.{IsAuditOf, StopsAtJournal, AuditEndsSo};
+ghost use Rattle.tdsl_tool.specs.Commands.{Ran};
 
 use crate::inspection::report_under;
 use crate::laws::{one_verdict, some_answer_of};
 use byte_ends::{Files, ReadEnd, Sink, read_all, write_all};
 use command_words::{Command, FileNames, Settings, command_of};
-use report::{Fault, write_fault};
+use history_audit::{Verdict, audit};
+use journal_terms::first_bad_lines_law;
+use report::{Fault, audit_text, write_fault};
 use rule_matcher::{Rules, RulesEnd, rules};
 use std::alloc::Global;
 
@@ -99,6 +103,54 @@ fn inspect<'a, F: Files, O: Sink>(
     }
 }
 
+// What is told of a journal.
+fn answer_for<'a, F: Files>(
+    alloc: Global,
+    files: &mut F,
+    name: &'a str,
+) -> Result<Vec<u8>, Fault<'a>>
+    ensures told { IfOk result (λ text. IsAuditOf (source (F.content files.old) (F.faults files.old) (F.faults files.new) name.now) (reports text.items)) }
+    ensures stops { IfErr result (λ fault. StopsAtJournal (source (F.content files.old) (F.faults files.old) (F.faults files.new) name.now) (cause_of fault)) }
+    ensures content { (file : List ℕ) → F.content files.new file ≡ F.content files.old file }
+    ensures counts { (file : List ℕ) → F.faults files.old file ≤ F.faults files.new file }
+{
+    let text = match bytes_of(alloc, files, name) {
+        Ok(text) => text,
+        Err(fault) => return Err(fault),
+    };
+    match audit(alloc, &text) {
+        Ok(Verdict::Yes { records, sights }) => match audit_text(alloc, records, sights) {
+            Ok(text) => Ok(text),
+            Err(_) => Err(Fault::Memory),
+        },
+        Ok(Verdict::No { line }) => Err(Fault::NotLegal { line }),
+        Err(_) => Err(Fault::Memory),
+    }
+}
+
+// Judges a journal, and writes what is told of it.
+fn judge<'a, F: Files, O: Sink>(
+    alloc: Global,
+    files: &mut F,
+    out: &mut O,
+    name: &'a str,
+) -> Result<(), Fault<'a>>
+    ensures ends { AuditEndsSo (source (F.content files.old) (F.faults files.old) (F.faults files.new) name.now)
+        (writing (O.written out.old) (O.written out.new) (O.faults out.old) (O.faults out.new)) (ending_of result) }
+    ensures content { (file : List ℕ) → F.content files.new file ≡ F.content files.old file }
+    ensures counts { (file : List ℕ) → F.faults files.old file ≤ F.faults files.new file }
+    ensures counts_out { O.faults out.old ≤ O.faults out.new }
+{
+    let text = match answer_for(alloc, files, name) {
+        Ok(text) => text,
+        Err(fault) => return Err(fault),
+    };
+    if write_all(out, &text).is_err() {
+        return Err(Fault::Write);
+    }
+    Ok(())
+}
+
 /// Writes the line of a fault, and answers its status. Whether the line is written whole changes no
 /// status.
 pub fn tell<E: Sink>(faults: &mut E, fault: &Fault<'_>) -> u8
@@ -125,10 +177,11 @@ fn finish<E: Sink>(faults: &mut E, ended: Result<(), Fault<'_>>) -> u8
 /// Does all that the program does, for the words behind the program's own name, and answers the
 /// status that it ends with.
 ///
-/// `inspect [--window N] RULES CAPTURE` reads the two files and writes the report to `out`. Every other list of
-/// words is a fault of usage. The steps are taken in order: the words, the rule file, its text, the
-/// capture file, its format, the findings, writing. The first that fails decides the status, and a
-/// line about it goes to `faults`.
+/// `inspect [--window N] RULES CAPTURE` reads the two files and writes the report to `out`. The steps are
+/// taken in order: the words, the rule file, its text, the capture file, its format, the findings, writing.
+/// `audit JOURNAL` reads the journal and writes how many records and sights it has, where it is legal; its
+/// steps are the words, the journal, its judgement, writing. Every other list of words is a fault of usage.
+/// The first step that fails decides the status, and a line about it goes to `faults`.
 pub fn run_with<Rt, F: Files, O: Sink, E: Sink>(
     rt: &Rt,
     alloc: Global,
@@ -156,11 +209,16 @@ pub fn run_with<Rt, F: Files, O: Sink, E: Sink>(
     let _ = rt;
     one_verdict();
     some_answer_of();
+    first_bad_lines_law();
     match command_of(words) {
         Command::Unknown => tell(faults, &Fault::Usage),
         Command::Inspect { names, settings } => {
             let ended = inspect(alloc, files, out, names, settings);
             finish(faults, ended)
+        }
+        Command::Audit { journal } => {
+            let judged = judge(alloc, files, out, journal);
+            finish(faults, judged)
         }
     }
 }

@@ -126,7 +126,7 @@ pub(crate) fn report(
 
 // The line of a fault of usage.
 pub(crate) const USAGE: &str =
-    "usage: inspect|journal [--workers N] [--findings N] [--window N] RULES CAPTURE | make SEED FRAMES | trial [--workers N] SEED FRAMES\n";
+    "usage: inspect|journal [--workers N] [--findings N] [--window N] RULES CAPTURE | make SEED FRAMES | trial [--workers N] SEED FRAMES | audit JOURNAL\n";
 
 pub(crate) const COMMAND: [&str; 3] = ["inspect", "r", "c"];
 
