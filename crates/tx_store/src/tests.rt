@@ -42,16 +42,17 @@ fn calls(tx: &mut StoreTx<'_, Anything>) -> Result<(u64, Option<u64>, Option<u64
     Ok((value, first, next, given))
 }
 
-// The length of a log after an append to it, and what stands at its first places.
+// The length of a log after two appends to it, what stands at the place of the second, and what at the next one.
 fn log_calls(tx: &mut StoreTx<'_, Anything>) -> Result<(u64, Option<u64>, Option<u64>), Stop>
     requires callable { MayCall tx.old.attempt }
     requires logs { 0 < length tx.old.store.table.meaning.plan.logs }
 {
     tx.log_append(0, 8)?;
+    let place = tx.log_append_placed(0, 6)?;
     let length = tx.log_len(0)?;
-    let first = tx.log_read(0, 0)?;
-    let next = tx.log_read(0, 1)?;
-    Ok((length, first, next))
+    let there = tx.log_read(0, place)?;
+    let next = tx.log_read(0, 2)?;
+    Ok((length, there, next))
 }
 
 fn attempt_on_log(
@@ -113,6 +114,6 @@ fn an_attempt_sees_its_own_additions(rt: HostRuntime) -> Result<(), Fail> {
     let Ok((store, pass)) = Store::open(alloc, Anything, &layout, 1) else {
         return Err(AllocError.into());
     };
-    assert_eq!(rt; attempt_on_log(alloc, &store, pass)?, (1, Some(8), None));
+    assert_eq!(rt; attempt_on_log(alloc, &store, pass)?, (2, Some(6), None));
     Ok(())
 }
