@@ -1,12 +1,12 @@
 -- A verdict from the first two lines, and the verdict of the whole text.
-use Rattle.std.proofs.Common.{◌≡◌, ◌↔◌, ℕ, ◌+◌, ◌<◌, ◌≤◌, Bool, true, false, List, [], ◌∷◌, ◌++◌, length, refl, sym, ap, ◌∙◌, subst, Option, Some, None, arith}
+use Rattle.std.proofs.Common.{◌≡◌, ◌↔◌, ℕ, Bool, List, [], ◌∷◌, length, sym, ap, ◌∙◌, subst, Option, Some, None, arith}
 use Rattle.std.specs.Option.{option_map}
 use Rattle.journal_terms.specs.Growing.{without_sights, BeginningsAreLegal}
 use Rattle.journal_terms.specs.Laws.{IsShort, OneTextOneJournal}
-use Rattle.journal_terms.specs.Legal.{AreSizes, BeginsLegal, FirstBadLines, IsFirstBadLine, IsLegalJournal, lines_of}
+use Rattle.journal_terms.specs.Legal.{AreSizes, BeginsLegal, FirstBadLines, IsFirstBadLine, lines_of}
 use Rattle.journal_terms.specs.Naming.{LinesAreNamed}
 use Rattle.journal_terms.specs.Reading.{cut_at}
-use Rattle.journal_terms.specs.Text.{Journal, journal_lines, sights_in, sizes_text, title}
+use Rattle.journal_terms.specs.Text.{Journal, sights_in, sizes_text, title}
 use Rattle.history_audit.specs.declared.lines.Sizes.{Sizes}
 use Rattle.history_audit.specs.declared.verdict.Verdict.{Verdict}
 use Rattle.history_audit.specs.declared.verdict.Verdict.TheVariants.{Yes, No}

@@ -1,19 +1,19 @@
 -- A verdict from the sights that were read.
-use Rattle.std.proofs.Common.{append_assoc, append-nil, ◌≡◌, ◌↔◌, ℕ, zero, suc, ◌+◌, ◌<◌, ◌≤◌, ◌⊎◌, inl, inr, Bool, true, false, List, [], ◌∷◌, ◌++◌, map, length, refl, sym, ap, ◌∙◌, subst, Option, Some, None, arith, codes, length-append, ◌^◌}
+use Rattle.std.proofs.Common.{append_assoc, append-nil, ◌≡◌, ℕ, suc, ◌+◌, ◌<◌, inl, inr, true, List, [], ◌∷◌, ◌++◌, map, length, refl, sym, ap, ◌∙◌, subst, arith, codes, length-append, ◌^◌}
 use Rattle.serial_terms.specs.declared.call.Done.{Done}
 use Rattle.serial_terms.specs.declared.committed.Record.{Record}
-use Rattle.serial_terms.specs.Entries.{Entry, Each}
+use Rattle.serial_terms.specs.Entries.{Entry}
 use Rattle.serial_terms.specs.Histories.{entry_of}
 use Rattle.serial_terms.specs.Sights.{Seen}
-use Rattle.journal_terms.specs.Growing.{JournalsGrow, WhatSuits, GoesOnByRecord, GoesOnBySight, with_sight}
-use Rattle.journal_terms.specs.Laws.{IsWritable, IsWritableSight, HasShortEnd}
+use Rattle.journal_terms.specs.Growing.{JournalsGrow, WhatSuits, GoesOnByRecord, GoesOnBySight}
+use Rattle.journal_terms.specs.Laws.{HasShortEnd}
 use Rattle.journal_terms.specs.Legal.{IsFirstBadLine, IsLegalJournal, lines_of}
-use Rattle.journal_terms.specs.Naming.{LinesAreNamed, SightsFollow, FollowsAsSight}
+use Rattle.journal_terms.specs.Naming.{LinesAreNamed, SightsFollow}
 use Rattle.journal_terms.specs.Reading.{cut_at}
-use Rattle.journal_terms.specs.Strict.{IsReadable, IsReadableSight, HasSmallEnd}
+use Rattle.journal_terms.specs.Strict.{IsReadableSight, HasSmallEnd}
 use Rattle.serial_terms.specs.declared.sight.SightEnd.{SightEnd}
 use Rattle.serial_terms.specs.declared.sight.SightEnd.TheVariants.{Aborted, Refused, Full, Child}
-use Rattle.journal_terms.specs.Text.{Journal, begun_lines, journal_lines, record_text, sight_text, sizes_text}
+use Rattle.journal_terms.specs.Text.{begun_lines, journal_lines, record_text, sight_text, sizes_text}
 use Rattle.history_audit.specs.declared.lines.Sizes.{Sizes}
 use Rattle.history_audit.specs.Replays.{AreReplayed, FollowsHere}
 use Rattle.history_audit.specs.Verdicts.{IsNoRecord, with_records, with_sights}

@@ -1,18 +1,16 @@
-use Rattle.std.proofs.Common.{◌≡◌, ◌∙◌, ℕ, ◌+◌, ◌<◌, ◌≤◌, ◌^◌, Bool, true, false, List, [], ◌∷◌, ◌++◌, map, length, refl, ap, sym, subst, arith, Option, Some, None, codes, length-append}
+use Rattle.std.proofs.Common.{◌≡◌, ◌∙◌, ◌<◌, Bool, false, List, [], ◌∷◌, ◌++◌, map, length, ap, sym, subst, arith, Some, None, length-append}
 use Rattle.std.specs.Option.{option_map}
 use Rattle.serial_terms.specs.declared.call.Done.{Done}
 use Rattle.serial_terms.specs.Entries.{Entry}
 use Rattle.serial_terms.specs.Histories.{entry_of}
 use Rattle.serial_terms.specs.Sights.{Seen, seen_of}
 use Rattle.journal_terms.specs.Growing.{GoesOnByRecord, GoesOnBySight}
-use Rattle.journal_terms.specs.Reading.{cut_at}
-use Rattle.journal_terms.specs.Text.{sight_text}
 use Rattle.history_audit.specs.declared.lines.Sizes.{Sizes}
-use Rattle.history_audit.specs.Replays.{AreReplayed, FollowsHere, HasWatched, IsWatched}
+use Rattle.history_audit.specs.Replays.{FollowsHere, HasWatched, IsWatched}
 use Rattle.history_audit.specs.Verdicts.{with_sights}
 use Rattle.history_audit.proofs.Judging.{is_end, is_no_end, no_sight_line}
 use Rattle.history_audit.proofs.Replaying.{length_entries}
-use Rattle.history_audit.proofs.Sighting.{HasSeenAll, unended_sight, ended_sights, sights_number, wrong_sight, follows_here, one_sight, replayed, no_record_first}
+use Rattle.history_audit.proofs.Sighting.{unended_sight, ended_sights, sights_number, wrong_sight, follows_here, one_sight, no_record_first}
 use Rattle.history_audit.proofs.verdict.judge_sights.Goals as goal
 
 pub returns-in-None : goal.returns-in-None

@@ -1,12 +1,12 @@
-use Rattle.std.proofs.Common.{◌≡◌, ◌∙◌, ℕ, ◌<◌, ◌≤◌, Bool, true, false, List, [], ◌∷◌, ◌++◌, length, map, take, refl, ap, sym, subst, arith}
+use Rattle.std.proofs.Common.{◌≡◌, ◌∙◌, ℕ, ◌<◌, ◌≤◌, Bool, true, false, List, length, map, take, refl, ap, sym, subst, arith}
 use Rattle.serial_terms.specs.declared.call.Done.{Done}
-use Rattle.serial_terms.specs.Entries.{Entry, Each, by_caller, up_to}
+use Rattle.serial_terms.specs.Entries.{Entry, by_caller, up_to}
 use Rattle.serial_terms.specs.Histories.{entry_of, IsLegalRun}
 use Rattle.serial_terms.specs.Ranges.{AreCallsOf, BelowCapacity}
 use Rattle.serial_terms.specs.Serial.{State}
 use Rattle.serial_terms.specs.Sights.{Seen, seen_of}
 use Rattle.serial_terms.specs.Stores.{opening_of}
-use Rattle.journal_terms.specs.Naming.{IsNotBelow, latest, most_after}
+use Rattle.journal_terms.specs.Naming.{IsNotBelow, most_after}
 use Rattle.history_audit.specs.declared.counts.Counts.{Counts}
 use Rattle.history_audit.specs.declared.lines.Sizes.{Sizes}
 use Rattle.history_audit.specs.Counts.{count_of}

@@ -1,4 +1,4 @@
-use Rattle.std.proofs.Common.{◌≡◌, ◌-◌, length, map}
+use Rattle.std.proofs.Common.{◌-◌, length, map}
 use Rattle.serial_terms.specs.Histories.{entry_of}
 use Rattle.history_audit.specs.Replays.{IsReplayOf, KeepsOrder}
 use Rattle.history_audit.proofs.replay.Replay.advance.Given as goal
