@@ -306,7 +306,11 @@ fn a_prefix_is_left_where_writing_fails(rt: HostRuntime) -> Result<(), Fail> {
 fn an_audit_tells_its_records_and_sights(rt: HostRuntime) -> Result<(), Fail> {
     for (records, sights, want) in [
         (7, 0, "yes 7 0\n"),
-        (0, 18_446_744_073_709_551_615, "yes 0 18446744073709551615\n"),
+        (
+            0,
+            18_446_744_073_709_551_615,
+            "yes 0 18446744073709551615\n",
+        ),
     ] {
         let text = audit_text(rt.alloc(), records, sights)?;
         assert_eq!(rt; text.as_slice(), want.as_bytes());
