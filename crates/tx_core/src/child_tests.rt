@@ -1,4 +1,5 @@
-ghost use Rattle.std.specs.Prelude.{◌≡◌, ◌<◌, true, false, length};
+ghost use Rattle.std.specs.Prelude.{◌≡◌, ◌<◌, true, false, length, is_some, OnOk};
+ghost use Rattle.tx_core.specs.Calls.{MayCall};
 ghost use Rattle.tx_core.specs.Children.{is_child};
 ghost use Rattle.tx_core.specs.declared.stop.TxState.TheVariants.{Child};
 
@@ -22,6 +23,29 @@ fn act_as_child(rt: &impl Abort, tx: &mut Tx<'_, Untold>)
     assert_eq!(rt; tx.hold(2), Ok(30));
     assert_eq!(rt; tx.take_later(0), Some(5));
     tx.later(0, 6).expect(rt, "the child adds a value");
+}
+
+// Cell 0 stops the open child.
+fn is_stopped_at_0(rt: &impl Abort, tx: &mut Tx<'_, Untold>, stop: Stop)
+    requires callable { MayCall tx.old }
+    requires cell { 0 < length tx.old.table.opening }
+    ensures child { is_child tx.new.state ≡ true }
+    ensures same { (tx.new.table ≡ tx.old.table) × (tx.new.committing ≡ false) × (tx.new.mark ≡ tx.old.mark) }
+{
+    assert_eq!(rt; tx.read(0), Err(stop));
+    assert_eq!(rt; tx.state(), TxState::ChildStopped);
+}
+
+// Drops the open child, and raises the version of its parent.
+fn drop_and_raise(tx: &mut Tx<'_, Untold>) -> Result<(), Stop>
+    requires child { is_child tx.old.state ≡ true }
+    requires marked { is_some tx.old.mark ≡ true }
+    requires before_commit { tx.old.committing ≡ false }
+    ensures callable { OnOk result (MayCall tx.new) }
+    ensures table { tx.new.table ≡ tx.old.table }
+{
+    tx.back_to_mark();
+    tx.raise()
 }
 
 // The second caller sees that cell 2 is held while the child is open, and free when it was dropped. The addition that the
@@ -82,10 +106,10 @@ fn a_child_is_tried_again_at_a_raised_version(rt: HostRuntime) -> Result<(), Fai
     assert_eq!(rt; a.read(1), Ok(4));
     a.mark();
     commit_beside(&rt, &table, second, 0, 5, 1);
-    assert_eq!(rt; a.read(0), Err(Stop::Newer { cell: 0, found: 1 }));
-    assert_eq!(rt; a.state(), TxState::ChildStopped);
-    a.back_to_mark();
-    assert_eq!(rt; a.raise(), Ok(()));
+    is_stopped_at_0(&rt, &mut a, Stop::Newer { cell: 0, found: 1 });
+    let Ok(()) = drop_and_raise(&mut a) else {
+        panic!(rt; "what the parent read still stands");
+    };
     assert_eq!(rt; a.version(), 1);
     assert_eq!(rt; a.read(0), Ok(5));
     a.abort();

@@ -39,6 +39,7 @@ fn write_and_commit(
     requires resolved { NothingWaits tx }
     requires cell { cell < length tx.table.opening }
     requires left { 0 < tx.pass.view.draws }
+    ensures of { IfOk result (λ r. IsPassOf tx.entry.table r.1) }
     ensures refused { IfErr result (λ r. IsPassOf tx.entry.table r.1 × IsIdle r.1.view × (tx.entry.pass.view.draws ≤ r.1.view.draws + 1)) }
 {
     match tx.write(cell, value) {
