@@ -19,9 +19,10 @@ module _ {M D : Type 0} where
     pub books : new.pass.books ≡ old.pass.books
     pub room : new.pass.room ≡ old.pass.room
 
-  -- calls may follow, and no draw was used
+  -- calls may follow as before, and no draw was used
   pub record GoesOn (old new : Attempt M D) : Type 0 where
     pub may : MayCall new
+    pub state : new.state ≡ old.state
     pub draws : new.pass.view.draws ≡ old.pass.view.draws
 
   -- nothing waits but in the log of receipts

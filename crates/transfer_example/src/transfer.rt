@@ -5,7 +5,8 @@ ghost use Rattle.cell_table.specs.Steps.{IsIdle};
 ghost use Rattle.cell_table.specs.Pass.{IsPassOf};
 ghost use Rattle.cell_table.specs.declared.view.Stage.TheVariants.{Open};
 ghost use Rattle.serial_terms.specs.Counts.{with_at};
-ghost use Rattle.tx_core.specs.Calls.{MayCall, IsOpen, HoldsWrites, NothingWaits, waiting, IsDrawn};
+ghost use Rattle.tx_core.specs.Calls.{MayCommit, HoldsWrites, NothingWaits, waiting, IsDrawn};
+ghost use Rattle.tx_core.specs.declared.stop.TxState.TheVariants.{Running};
 ghost use Rattle.tx_map.specs.Map.{IsFormed, map_of};
 ghost use Rattle.tx_map.specs.Calls.{MayAsk};
 ghost use Rattle.transfer_example.specs.Bank.{Keeps};
@@ -174,12 +175,12 @@ fn transfer(
 
 // Locks what was written, places the receipt, and validates all at a place of its own.
 fn prepare(tx: &mut Tx<'_, FixedTotal>, amount: u32) -> Result<(), Refusal>
-    requires callable { MayCall tx.old }
+    requires callable { MayCommit tx.old }
     requires cells { length tx.old.table.opening ≡ 41 }
     requires receipt { OnlyReceiptsWait tx.old × (waiting 0 tx.old ≡ amount ∷ []) }
     requires keeps { (total : ℕ) → Keeps total (amount ∷ []) tx.old.observations tx.old.writes }
     requires draw { 0 < tx.old.pass.view.draws }
-    ensures open_now { OnOk result (IsOpen tx.new.state) }
+    ensures running { OnOk result (tx.new.state ≡ Running) }
     ensures drawn { OnOk result ((d : ℕ) × IsDrawn tx.new d) }
     ensures held { OnOk result (HoldsWrites tx.new × (0 < length tx.new.writes)) }
     ensures resolved { OnOk result (NothingWaits tx.new) }

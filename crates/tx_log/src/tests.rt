@@ -87,16 +87,37 @@ fn expect_full(rt: &impl Abort, tx: &mut Tx<'_, Untold>, there: u64, adding: u64
     assert_eq!(rt; tx.state(), TxState::Running);
 }
 
+// Expects this value at the place, or none.
+fn expect_value(rt: &impl Abort, tx: &mut Tx<'_, Untold>, place: u64, value: Option<u64>)
+    requires callable { MayCommit tx.old }
+    requires part { 2 < length tx.old.table.opening }
+    ensures table { tx.new.table ≡ tx.old.table }
+    ensures callable { MayCommit tx.new }
+    ensures draws { tx.new.pass.view.draws ≡ tx.old.pass.view.draws }
+    ensures waits { (part : ℕ) → waiting part tx.new ≡ waiting part tx.old }
+{
+    assert_eq!(rt; TWO.read(tx, place), Ok(value));
+}
+
+// Expects that the log has so many values.
+fn expect_len(rt: &impl Abort, tx: &mut Tx<'_, Untold>, count: u64)
+    requires callable { MayCommit tx.old }
+    requires part { 2 < length tx.old.table.opening }
+    ensures table { tx.new.table ≡ tx.old.table }
+    ensures callable { MayCommit tx.new }
+    ensures draws { tx.new.pass.view.draws ≡ tx.old.pass.view.draws }
+    ensures waits { (part : ℕ) → waiting part tx.new ≡ waiting part tx.old }
+{
+    assert_eq!(rt; TWO.len(tx), Ok(count));
+}
+
 #[test]
 fn an_attempt_sees_what_it_adds(rt: HostRuntime) -> Result<(), Fail> {
     let (table, pass) = CellTable::open(rt.alloc(), Untold, &[0, 0, 0], 1)?;
-    let Ok(mut tx) = Tx::begin(rt.alloc(), &table, pass) else {
-        panic!(rt; "the attempt begins");
-    };
-    TWO.append(&mut tx, 3).expect(&rt, "the value is added");
-    assert_eq!(rt; TWO.len(&mut tx), Ok(1));
-    assert_eq!(rt; TWO.read(&mut tx, 0), Ok(Some(3)));
-    assert_eq!(rt; TWO.read(&mut tx, 1), Ok(None));
+    let mut tx = begin_adding(&rt, rt.alloc(), &table, pass, 3);
+    expect_len(&rt, &mut tx, 1);
+    expect_value(&rt, &mut tx, 0, Some(3));
+    expect_value(&rt, &mut tx, 1, None);
     let pass = commit(&rt, tx);
     assert_eq!(rt; pass.seen(), 1);
     let Ok(mut tx) = Tx::begin(rt.alloc(), &table, pass) else {

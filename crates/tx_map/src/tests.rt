@@ -26,6 +26,7 @@ fn expect_get<K: KeyTest>(
     requires waits { NothingWaits tx.old × (0 < tx.old.pass.view.draws) }
     ensures callable { MayAsk part.now tx.new directory.now keys.new }
     ensures waits { NothingWaits tx.new × (0 < tx.new.pass.view.draws) }
+    ensures going { tx.new.state ≡ tx.old.state }
     ensures same { (tx.new.table ≡ tx.old.table) × (tx.new.writes ≡ tx.old.writes) }
 {
     match part.get(tx, directory, keys, key) {
@@ -49,6 +50,7 @@ fn put<K: KeyTest>(
     requires waits { NothingWaits tx.old × (0 < tx.old.pass.view.draws) }
     ensures callable { MayAsk part.now tx.new directory.now keys.new }
     ensures waits { NothingWaits tx.new × (0 < tx.new.pass.view.draws) }
+    ensures going { tx.new.state ≡ tx.old.state }
     ensures table { tx.new.table ≡ tx.old.table }
 {
     match part.put(tx, directory, keys, key, value) {
@@ -70,6 +72,7 @@ fn remove<K: KeyTest>(
     requires waits { NothingWaits tx.old × (0 < tx.old.pass.view.draws) }
     ensures callable { MayAsk part.now tx.new directory.now keys.new }
     ensures waits { NothingWaits tx.new × (0 < tx.new.pass.view.draws) }
+    ensures going { tx.new.state ≡ tx.old.state }
 {
     match part.remove(tx, directory, keys, key) {
         Ok(()) => {}
@@ -94,6 +97,7 @@ fn expect_put_if_absent<K: KeyTest>(
     requires waits { NothingWaits tx.old × (0 < tx.old.pass.view.draws) }
     ensures callable { MayAsk part.now tx.new directory.now keys.new }
     ensures waits { NothingWaits tx.new × (0 < tx.new.pass.view.draws) }
+    ensures going { tx.new.state ≡ tx.old.state }
 {
     match part.put_if_absent(tx, directory, keys, key, value) {
         Ok(found) => assert_eq!(rt; found, there, "the value of {key} before"),

@@ -59,14 +59,41 @@ fn expect_full(rt: &impl Abort, tx: &mut Tx<'_, Untold>, there: u64, adding: u64
     assert_eq!(rt; tx.state(), TxState::Running);
 }
 
+// Adds a value.
+fn add(rt: &impl Abort, tx: &mut Tx<'_, Untold>, value: u64)
+    requires callable { MayCommit tx.old }
+    requires alone { (part : ℕ) → part ≢ 0 → waiting part tx.old ≡ [] }
+    ensures table { tx.new.table ≡ tx.old.table }
+    ensures callable { MayCommit tx.new }
+    ensures draws { tx.new.pass.view.draws ≡ tx.old.pass.view.draws }
+    ensures some { waiting 0 tx.new ≢ [] }
+    ensures alone { (part : ℕ) → part ≢ 0 → waiting part tx.new ≡ [] }
+{
+    TWO.enqueue(tx, value).expect(rt, "the value is added");
+}
+
+// Expects that the queue has so many values.
+fn expect_len(rt: &impl Abort, tx: &mut Tx<'_, Untold>, count: u64)
+    requires callable { MayCommit tx.old }
+    requires part { 2 < length tx.old.table.opening }
+    requires alone { (part : ℕ) → part ≢ 0 → waiting part tx.old ≡ [] }
+    ensures table { tx.new.table ≡ tx.old.table }
+    ensures callable { MayCommit tx.new }
+    ensures draws { tx.new.pass.view.draws ≡ tx.old.pass.view.draws }
+    ensures alone { (part : ℕ) → part ≢ 0 → waiting part tx.new ≡ [] }
+{
+    assert_eq!(rt; TWO.len(tx), Ok(count));
+}
+
 // Takes this value, the first one, out of the queue.
 fn take(rt: &impl Abort, tx: &mut Tx<'_, Untold>, value: u64)
     requires callable { MayCommit tx.old }
     requires part { 2 < length tx.old.table.opening }
+    requires alone { (part : ℕ) → part ≢ 0 → waiting part tx.old ≡ [] }
     ensures table { tx.new.table ≡ tx.old.table }
     ensures callable { MayCommit tx.new }
     ensures draws { tx.new.pass.view.draws ≡ tx.old.pass.view.draws }
-    ensures others { (part : ℕ) → part ≢ 0 → waiting part tx.new ≡ waiting part tx.old }
+    ensures alone { (part : ℕ) → part ≢ 0 → waiting part tx.new ≡ [] }
 {
     assert_eq!(rt; TWO.dequeue(tx), Ok(Some(value)));
 }
@@ -79,11 +106,11 @@ fn items_go_round_the_ring(rt: HostRuntime) -> Result<(), Fail> {
     let Ok(mut tx) = Tx::begin(rt.alloc(), &table, pass) else {
         panic!(rt; "the attempt begins");
     };
-    TWO.enqueue(&mut tx, 8).expect(&rt, "a value is added");
-    assert_eq!(rt; TWO.len(&mut tx), Ok(2));
+    add(&rt, &mut tx, 8);
+    expect_len(&rt, &mut tx, 2);
     take(&rt, &mut tx, 7);
     take(&rt, &mut tx, 8);
-    TWO.enqueue(&mut tx, 9).expect(&rt, "another is added");
+    add(&rt, &mut tx, 9);
     let mut pass = commit(&rt, tx);
     assert_eq!(rt; pass.seen(), 1);
     assert_eq!(rt; table.look_value(&mut pass, 0), 1);
@@ -141,8 +168,8 @@ fn a_queue_may_be_filled_to_its_capacity(rt: HostRuntime) -> Result<(), Fail> {
     let Ok(mut tx) = Tx::begin(rt.alloc(), &table, pass) else {
         panic!(rt; "the attempt begins");
     };
-    assert_eq!(rt; TWO.dequeue(&mut tx), Ok(Some(5)));
-    TWO.enqueue(&mut tx, 7).expect(&rt, "a value is added");
+    take(&rt, &mut tx, 5);
+    add(&rt, &mut tx, 7);
     let mut pass = commit(&rt, tx);
     assert_eq!(rt; table.look_value(&mut pass, 0), FROM_ONE + 2);
     assert_eq!(rt; table.look_value(&mut pass, 1), 7);
