@@ -1,6 +1,8 @@
 //! The audit of a journal: whether some legal run wrote it, and else the first line that none could have.
 #![tactic(auto)]
 
+#[cfg(test)]
+mod broken_tests;
 mod calls;
 mod counts;
 mod ledger;
