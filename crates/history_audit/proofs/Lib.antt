@@ -8,6 +8,7 @@ pub mod Again
 pub mod Sized
 pub mod Growth
 pub mod Judging
+pub mod Beginning
 pub mod Replaying
 pub mod Sighting
 pub mod Auditing

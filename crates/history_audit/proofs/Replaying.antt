@@ -1,5 +1,5 @@
 -- Records run again up to a place.
-use Rattle.std.proofs.Common.{◌≡◌, ℕ, zero, suc, ◌+◌, ◌<◌, ◌≤◌, inl, inr, Bool, true, false, List, [], ◌∷◌, ◌++◌, map, length, take, drop, get_or, refl, sym, ap, ◌∙◌, subst, arith, add-one}
+use Rattle.std.proofs.Common.{◌≡◌, ℕ, zero, suc, ◌+◌, ◌<◌, ◌≤◌, inl, inr, Bool, true, false, List, [], ◌∷◌, ◌++◌, length, take, drop, get_or, refl, sym, ap, ◌∙◌, subst, arith, add-one, Option, Some, None}
 use Rattle.std.specs.Prelude.{nat_le}
 use Rattle.std.proofs.lemmas.Bool.{cond-true, cond-false, false_from_ne_true, leb-true, le-leb}
 use Rattle.std.proofs.lemmas.List.{take-append-drop}
@@ -14,10 +14,12 @@ use Rattle.serial_terms.specs.Stores.{opening_of}
 use Rattle.journal_terms.specs.Legal.{IsRecordIn}
 use Rattle.history_audit.specs.declared.lines.Sizes.{Sizes}
 use Rattle.history_audit.specs.declared.replay.Replay.{Replay}
+use Rattle.history_audit.specs.Begun.{records_in}
 use Rattle.history_audit.specs.Counts.{count_of}
 use Rattle.history_audit.specs.Ledgers.{layout_of}
-use Rattle.history_audit.specs.Replays.{IsReplayOf, AreReplayed, HasNextRun}
+use Rattle.history_audit.specs.Replays.{IsReplayOf, AreReplayed, HasNextRun, waiting}
 use Rattle.history_audit.specs.Structures.{state_of, HasRun}
+use Rattle.history_audit.proofs.Beginning.{StandsAt, stands_at, none_left}
 use Rattle.history_audit.proofs.Growth.{counts_more}
 use Rattle.std.proofs.Common.{eqb, cond, ◌↔◌, max}
 use Rattle.std.proofs.lemmas.Bool.{eqb-true}
@@ -38,15 +40,6 @@ use Rattle.history_audit.proofs.Sized.{first_calls}
 pub only_run : RunsToOneState → (s t : State) (ds : List Done) (b : Bool) → HasRun b s ds t → (u : State) → Runs s ds u → u ≡ t
 only_run one s t ds true h u r = one ds s u t r h
 only_run one s t ds false h u r = absurd (h u r)
-
-pub map_at : (xs : List Record) (n : ℕ) (d : Record) → get_or (map entry_of xs) n (entry_of d) ≡ entry_of (get_or xs n d)
-map_at [] n d = refl
-map_at (x ∷ xs) zero d = refl
-map_at (x ∷ xs) (suc n) d = map_at xs n d
-
-pub length_entries : (xs : List Record) → length (map entry_of xs) ≡ length xs
-length_entries [] = refl
-length_entries (x ∷ xs) = ap suc (length_entries xs)
 
 take_next : (xs : List (Entry Done)) (n : ℕ) (d : Entry Done) → n < length xs → take (suc n) xs ≡ take n xs ++ get_or xs n d ∷ []
 take_next [] n d l = absurd (omega arith)
@@ -83,8 +76,31 @@ next_runs parts one start s t end es n d l whole here only =
     let single : IsLegalRun s (get_or es n d ∷ []) t = (b.0, b.1, b.2, b.3, only b.0 b.1) in
     subst (λ (z : List (Entry Done)). IsLegalRun start z t) (sym (take_next es n d l)) ((parts (take n es) (get_or es n d ∷ []) start t).1 (s, here, single))
 
+-- ---- the record that waits
+
+pub next_stands : (r : Replay) (es : List (Entry Done)) (x : Record) → IsReplayOf r es → r.next ≡ Some x → StandsAt es r.done (entry_of x) (records_in r.left.now)
+next_stands r es x h some = stands_at es r.done (entry_of x) (records_in r.left.now) (h.others ∙ ap (λ (o : Option Record). waiting o (records_in r.left.now)) some)
+
+pub next_within : (r : Replay) (z : Sizes) (es : List (Entry Done)) (x : Record) → IsReplayOf r es → AreReplayed z es → r.next ≡ Some x → IsRecordIn (layout_of z) (entry_of x)
+next_within r z es x h w some = let st = next_stands r es x h some in subst (IsRecordIn (layout_of z)) st.here (each_at (IsRecordIn (layout_of z)) es r.done (entry_of x) st.within w.within)
+
+pub next_later : (r : Replay) (z : Sizes) (p : ℕ) (es : List (Entry Done)) (x : Record) → IsReplayOf r es → AreReplayed z es → r.place ≡ p → r.next ≡ Some x → p < x.place → up_to p es ≡ take r.done es
+next_later r z p es x h w at some later = let st = next_stands r es x h some in
+    up_to_taken p r.done es (entry_of x) w.order (subst (λ (q : ℕ). Each (λ e. e.place ≤ q) (take r.done es)) at h.low) (λ l. subst (λ (e : Entry Done). p < e.place) (sym st.here) later)
+
+pub all_run : (r : Replay) (z : Sizes) (p : ℕ) (es : List (Entry Done)) → IsReplayOf r es → AreReplayed z es → r.place ≡ p → r.next ≡ None → up_to p es ≡ take r.done es
+all_run r z p es h w at gone = let few = none_left es r.done (h.others ∙ ap (λ (o : Option Record). waiting o (records_in r.left.now)) gone) in
+    up_to_taken p r.done es (record { caller = 0; index = 0; place = 0; writer = false; dones = [] }) w.order (subst (λ (q : ℕ). Each (λ e. e.place ≤ q) (take r.done es)) at h.low) (λ l. absurd (omega (arith, few, l)))
+
+-- what is so once one record more was run
+pub record HasRunTo (r : Replay) (es : List (Entry Done)) : Type 0 where
+  pub done : r.done ≤ length es
+  pub run : IsLegalRun (opening_of (layout_of r.sizes)) (take r.done es) (state_of r.structures)
+  pub counts : (k : ℕ) → k < 16 → count_of r.counts k ≡ length (by_caller k (take r.done es))
+  pub low : Each (λ e. e.place ≤ r.place) (take r.done es)
+
 pub next_replayed : RecordsRunInParts → RecordsLeaveOneState → (old new : Replay) (es : List (Entry Done)) (e d : Entry Done) → get_or es old.done d ≡ e → old.done < length es
-    → IsReplayOf old es → AreReplayed old.sizes es → HasNextRun old e new → e.place ≤ old.place → e.caller < 16 → IsReplayOf new es
+    → IsReplayOf old es → AreReplayed old.sizes es → HasNextRun old e new → e.place ≤ old.place → e.caller < 16 → HasRunTo new es
 next_replayed parts one old new es e d at l r w h low small =
     let count : new.done ≡ suc old.done = h.done ∙ add-one old.done in
     let more : take new.done es ≡ take old.done es ++ e ∷ [] = ap (λ (n : ℕ). take n es) count ∙ (take_next es old.done d l ∙ ap (λ (z : Entry Done). take old.done es ++ z ∷ []) at) in

@@ -1,9 +1,7 @@
 -- A verdict from the sights that were read.
 use Rattle.std.proofs.Common.{append_assoc, append-nil, ◌≡◌, ℕ, suc, ◌+◌, ◌<◌, inl, inr, true, List, [], ◌∷◌, ◌++◌, map, length, refl, sym, ap, ◌∙◌, subst, arith, codes, length-append, ◌^◌}
 use Rattle.serial_terms.specs.declared.call.Done.{Done}
-use Rattle.serial_terms.specs.declared.committed.Record.{Record}
 use Rattle.serial_terms.specs.Entries.{Entry}
-use Rattle.serial_terms.specs.Histories.{entry_of}
 use Rattle.serial_terms.specs.Sights.{Seen}
 use Rattle.journal_terms.specs.Growing.{JournalsGrow, WhatSuits, GoesOnByRecord, GoesOnBySight}
 use Rattle.journal_terms.specs.Laws.{HasShortEnd}
@@ -15,17 +13,14 @@ use Rattle.serial_terms.specs.declared.sight.SightEnd.{SightEnd}
 use Rattle.serial_terms.specs.declared.sight.SightEnd.TheVariants.{Aborted, Refused, Full, Child}
 use Rattle.journal_terms.specs.Text.{begun_lines, journal_lines, record_text, sight_text, sizes_text}
 use Rattle.history_audit.specs.declared.lines.Sizes.{Sizes}
-use Rattle.history_audit.specs.Replays.{AreReplayed, FollowsHere}
+use Rattle.history_audit.specs.declared.replay.Replay.{Replay}
+use Rattle.history_audit.specs.Replays.{AreReplayed, AreRecordsOf, IsReplayOf, FollowsHere}
 use Rattle.history_audit.specs.Verdicts.{IsNoRecord, with_records, with_sights}
 use Rattle.history_audit.proofs.Cuts.{cut_some}
 use Rattle.history_audit.proofs.Judging.{writable_calls}
 
 abbrev Lines : Type 0
 Lines = List (List ℕ)
-
-pub entries_more : (xs : List Record) (x : Record) → map entry_of (xs ++ x ∷ []) ≡ map entry_of xs ++ entry_of x ∷ []
-entries_more [] x = refl
-entries_more (y ∷ ys) x = ap (λ (z : List (Entry Done)). entry_of y ∷ z) (entries_more ys x)
 
 sights_more : (vs : List (Seen Done)) (v : Seen Done) (behind : Lines) → map sight_text (vs ++ v ∷ []) ++ behind ≡ map sight_text vs ++ sight_text v ∷ behind
 sights_more [] v behind = refl
@@ -102,6 +97,9 @@ one_sight follow suits sizes es lines rest line behind number vs v h readable te
 
 pub replayed : (sizes : Sizes) (es : List (Entry Done)) → IsLegalJournal (with_records true sizes es) → length es < 2 ^ 63 → AreReplayed sizes es
 replayed sizes es l few = record { end = l.legal.0; run = l.legal.1.run; order = l.legal.1.order; within = l.records; few = few }
+
+pub records_here : (sizes : Sizes) (r : Replay) (es : List (Entry Done)) → r.sizes ≡ sizes → IsLegalJournal (with_records true sizes es) → length es < 2 ^ 63 → IsReplayOf r es → AreRecordsOf r es
+records_here sizes r es e l few again = record { replay = again; whole = subst (λ (z : Sizes). AreReplayed z es) (sym e) (replayed sizes es l few) }
 
 -- no record stands where a sight is to stand
 pub no_record_first : WhatSuits → (sizes : Sizes) (es : List (Entry Done)) (lines rest line behind : List ℕ) (number : ℕ) (vs : List (Seen Done)) (h : HasSeenAll sizes es lines rest number vs)

@@ -2,7 +2,7 @@
 use Rattle.std.specs.Prelude.{◌∷◌, ◌≤◌, Some, ◌≡◌, ℕ, ◌+◌, Bool, IsTrue, List, ◌++◌, length, map}
 use Rattle.serial_terms.specs.declared.call.Done.{Done}
 use Rattle.serial_terms.specs.Entries.{Entry}
-use Rattle.serial_terms.specs.Histories.{IsLegalHistory, entry_of}
+use Rattle.serial_terms.specs.Histories.{IsLegalHistory}
 use Rattle.serial_terms.specs.Sights.{Seen}
 use Rattle.serial_terms.specs.Serial.{State}
 use Rattle.journal_terms.specs.Growing.{without_sights}
@@ -10,6 +10,7 @@ use Rattle.journal_terms.specs.Legal.{IsLegalJournal, IsFirstBadLine, start_of}
 use Rattle.journal_terms.specs.Reading.{cut_at}
 use Rattle.journal_terms.specs.Strict.{IsReadableRecord}
 use Rattle.journal_terms.specs.Text.{Journal, journal_text, record_text, sights_in}
+use Rattle.history_audit.specs.Begun.{records_in}
 use Rattle.history_audit.specs.declared.lines.Sizes.{Sizes}
 use Rattle.history_audit.specs.declared.verdict.Verdict.{Verdict}
 use Rattle.history_audit.specs.declared.verdict.Verdict.TheVariants.{Yes, No}
@@ -51,4 +52,4 @@ IsNoRecord text = (line : List ℕ) (behind : List (List ℕ)) → cut_at 10 tex
 -- the text is judged; or its records are read, and the line behind them is no record's, in a journal that may have sights
 abbrev pub IsOutcome : List ℕ → Bool → Sizes → List ℕ → Outcome → Type 0
 IsOutcome text second sizes lines (Judged v) = IsVerdict text v
-IsOutcome text second sizes lines (Sights rest line records) = IsTrue second × HasRead second sizes lines rest.now line (map entry_of records.items) × IsNoRecord rest.now × (line + length rest.now ≤ 3 + length lines)
+IsOutcome text second sizes lines (Sights rest line) = IsTrue second × HasRead second sizes lines rest.now line (records_in lines) × IsNoRecord rest.now × (line + length rest.now ≤ 3 + length lines)

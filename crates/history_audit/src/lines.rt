@@ -111,7 +111,7 @@ pub(crate) fn parts(line: &[u8]) -> Option<(&[u8], &[u8])>
 }
 
 #[tactic(auto, unfolding(journal_terms::specs::Strict::read_record))]
-fn read_record(alloc: Global, line: &[u8]) -> Result<Option<Record>, AllocError>
+pub(crate) fn read_record(alloc: Global, line: &[u8]) -> Result<Option<Record>, AllocError>
     ensures { IfOk result (λ found. option_map entry_of found ≡ read.read_record line.now) }
 {
     let Some((head, calls)) = parts(line) else {

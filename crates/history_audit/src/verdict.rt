@@ -5,10 +5,10 @@ ghost use Rattle.journal_terms.specs.Growing.{without_sights};
 ghost use Rattle.journal_terms.specs.Legal.{AreSizes, IsFirstBadLine, IsLegalJournal, lines_of};
 ghost use Rattle.journal_terms.specs.Reading.{cut_at};
 ghost use Rattle.journal_terms.specs.Text.{Journal, begun_lines, journal_lines, sights_in, sizes_text, title};
+ghost use Rattle.history_audit.specs.Begun.{records_in};
 ghost use Rattle.history_audit.specs.Heads.{sizes_of};
 ghost use Rattle.history_audit.specs.Verdicts.{IsLegalWith, IsNoRecord, IsOutcome, IsVerdict, with_records};
-ghost use Rattle.std.specs.Prelude.{Bool, IsTrue, map, true};
-ghost use Rattle.serial_terms.specs.Histories.{entry_of};
+ghost use Rattle.std.specs.Prelude.{Bool, IsTrue, true};
 
 use crate::ledger::Ledger;
 use crate::lines::{Sizes, opening, record};
@@ -17,9 +17,9 @@ use crate::sights::sight;
 use crate::words::cut;
 use journal_terms::{
     beginnings_are_legal_law, first_bad_lines_law, histories_grow_law, journals_grow_law,
-    lines_are_named_law, one_text_one_journal_law, sights_follow_law, what_suits_law,
+    lines_are_named_law, lines_are_read_law, one_text_one_journal_law, sights_follow_law,
+    what_suits_law,
 };
-use serial_terms::Record;
 use std::alloc::{AllocError, Global};
 
 /// What an audit says of a text.
@@ -37,12 +37,8 @@ pub enum Verdict {
 enum Outcome<'t> {
     // The text is judged.
     Judged(Verdict),
-    // These records are legal, and `rest` begins with a line of this number that is no record's, in a journal that may have sights.
-    Sights {
-        rest: &'t [u8],
-        line: u64,
-        records: Vec<Record>,
-    },
+    // The records are legal, and `rest` begins with a line of this number that is no record's, in a journal that may have sights.
+    Sights { rest: &'t [u8], line: u64 },
 }
 
 // The verdict behind the line `end`, whose number is given.
@@ -74,9 +70,9 @@ fn judge_records(
     histories_grow_law();
     journals_grow_law();
     lines_are_named_law();
+    lines_are_read_law();
     what_suits_law();
     let mut ledger = Ledger::opened(alloc, sizes)?;
-    let mut records = Vec::new(alloc);
     let mut rest = lines;
     let mut number = 3;
     'lines: loop {
@@ -90,11 +86,7 @@ fn judge_records(
         }
         let record = match record(alloc, line)? {
             None if second => {
-                return Ok(Outcome::Sights {
-                    rest,
-                    line: number,
-                    records,
-                });
+                return Ok(Outcome::Sights { rest, line: number });
             }
             None => return Ok(Outcome::Judged(Verdict::No { line: number })),
             Some(record) => record,
@@ -103,31 +95,30 @@ fn judge_records(
         if !admitted {
             return Ok(Outcome::Judged(Verdict::No { line: number }));
         }
-        records.push(record)?;
         rest = behind;
         number += 1;
     }
 }
 
-// Judges the lines behind the records of a journal that may have sights.
+// Judges the lines behind the records of a journal that may have sights. The lines of the records are read once more beside them.
 fn judge_sights(
     alloc: Global,
     sizes: Sizes,
-    records: &[Record],
+    records: &[u8],
     lines: &[u8],
     first: u64,
 ) -> Result<Verdict, AllocError>
-    requires legal { IsLegalJournal (with_records true sizes (map entry_of records.now)) }
+    requires legal { IsLegalJournal (with_records true sizes (records_in records.now)) }
     requires behind { IsNoRecord lines.now }
-    requires number { first ≡ 3 + length (map entry_of records.now) }
-    requires short { first + length lines.now < 2 ^ 63 + 4 }
-    ensures { IfOk result (λ v. (text : List ℕ) → lines_of text ≡ begun_lines (with_records true sizes (map entry_of records.now)) ++ cut_at 10 lines.now → IsVerdict text v) }
+    requires number { first ≡ 3 + length (records_in records.now) }
+    requires short { first + length lines.now < 2 ^ 63 + 3 }
+    ensures { IfOk result (λ v. (text : List ℕ) → lines_of text ≡ begun_lines (with_records true sizes (records_in records.now)) ++ cut_at 10 lines.now → IsVerdict text v) }
 {
     journals_grow_law();
     lines_are_named_law();
     sights_follow_law();
     what_suits_law();
-    let mut replay = Replay::opened(alloc, sizes)?;
+    let mut replay = Replay::opened(alloc, sizes, records)?;
     let mut rest = lines;
     let mut number = first;
     let mut sights = 0;
@@ -138,13 +129,13 @@ fn judge_sights(
             Some(behind) => behind,
         };
         if line == b"end".as_slice() {
-            return Ok(ended(behind, number, records.len() as u64, sights));
+            return Ok(ended(behind, number, first - 3, sights));
         }
         let sight = match sight(alloc, line)? {
             None => return Ok(Verdict::No { line: number }),
             Some(sight) => sight,
         };
-        let admitted = replay.admit(alloc, records, &sight)?;
+        let admitted = replay.admit(alloc, &sight)?;
         if !admitted {
             return Ok(Verdict::No { line: number });
         }
@@ -207,12 +198,8 @@ fn judge(alloc: Global, text: &[u8]) -> Result<Verdict, AllocError>
     }
     match judge_records(alloc, second, sizes, rest)? {
         Outcome::Judged(verdict) => Ok(verdict),
-        Outcome::Sights {
-            rest,
-            line,
-            records,
-        } => {
-            let verdict = judge_sights(alloc, sizes, records.as_slice(), rest, line)?;
+        Outcome::Sights { rest: behind, line } => {
+            let verdict = judge_sights(alloc, sizes, rest, behind, line)?;
             Ok(verdict)
         }
     }

@@ -1,10 +1,9 @@
 use Rattle.std.proofs.Common.{List}
-use Rattle.std.proofs.Common.{◌≡◌, ◌∙◌, ◌<◌, Bool, false, [], ◌∷◌, ◌++◌, length, ap, sym, subst, arith, Some, None, codes}
+use Rattle.std.proofs.Common.{◌≡◌, ◌∙◌, ◌<◌, Bool, false, [], ◌∷◌, ◌++◌, length, refl, ap, sym, subst, arith, Some, None, codes}
 use Rattle.std.specs.Option.{option_map}
-use Rattle.std.proofs.Common.{map}
 use Rattle.journal_terms.specs.Reading.{cut_at}
 use Rattle.history_audit.specs.Verdicts.{HasRead}
-use Rattle.history_audit.proofs.Sighting.{entries_more}
+use Rattle.history_audit.proofs.Beginning.{records_more, records_end}
 use Rattle.serial_terms.specs.declared.call.Done.{Done}
 use Rattle.serial_terms.specs.Entries.{Entry, by_caller}
 use Rattle.serial_terms.specs.Histories.{entry_of, IsLegalRun}
@@ -20,7 +19,7 @@ use Rattle.history_audit.proofs.verdict.judge_records.Goals as goal
 pub lines-init : goal.lines-init
 lines-init c = record {
   sizes = c.in_ok-ledger.ensures.sizes;
-  read = ([], (read_nothing c.beginnings_are_legal_law.ensures c.args.second c.args.sizes c.args.lines.now c.requires.sizes, c.in_ok-ledger.ensures.ledger, ap (map entry_of) c.new-records.ensures.items));
+  read = ([], (read_nothing c.beginnings_are_legal_law.ensures c.args.second c.args.sizes c.args.lines.now c.requires.sizes, c.in_ok-ledger.ensures.ledger, refl));
   bound = omega arith;
 }
 
@@ -101,7 +100,7 @@ lines-preserved c = let r = c.lines.invariant.read in
               reads.0 reads.1 (rw c.in-Some.is at c.cut.ensures.cut)
               (subst (λ (z : Sizes). IsRecordIn (layout_of z) e) c.lines.invariant.sizes grown.within) grown.next grown.after.1,
           grown.after.2,
-          ap (map entry_of) c.in_ok-push.ensures.items ∙ (entries_more c.lines.records.items c.in-Some-2.record ∙ ap (λ (xs : List (Entry Done)). xs ++ e ∷ []) r.1.2),
+          records_more c.args.lines.now c.lines.rest.now c.cut.result.0.now c.in-Some.behind.now r.0 e r.1.2 (rw c.in-Some.is at c.cut.ensures.cut) ((c.lines_are_read_law.ensures.records c.cut.result.0.now e).1 reads),
         ),
       );
       bound = let low = c.lines.invariant.bound in omega (arith, low, shorter);
@@ -110,7 +109,11 @@ lines-preserved c = let r = c.lines.invariant.read in
 pub returns-in-None-2 : goal.returns-in-None-2
 returns-in-None-2 c = λ text all. let r = c.lines.invariant.read in (
   c.if-second.true,
-  subst (λ (es : List (Entry Done)). HasRead c.args.second c.args.sizes c.args.lines.now c.lines.rest.now c.lines.number es) (sym r.1.2) r.1.0,
+  subst (λ (es : List (Entry Done)). HasRead c.args.second c.args.sizes c.args.lines.now c.lines.rest.now c.lines.number es)
+      (sym (records_end c.args.lines.now c.lines.rest.now c.cut.result.0.now c.in-Some.behind.now r.0 r.1.2 (rw c.in-Some.is at c.cut.ensures.cut)
+      (λ e read. let s = (c.lines_are_read_law.ensures.records c.cut.result.0.now e).0 read in
+      let found : option_map entry_of c.in_ok-record.field-0 ≡ Some e = (c.in_ok-record.ensures e).1 s in
+      let bad : None ≡ Some e = sym (ap (option_map entry_of) c.in-None-2.is) ∙ found in absurd (cc bad)))) r.1.0,
   λ line behind cutting e readable text_is.
       let both : c.cut.result.0.now ∷ cut_at 10 c.in-Some.behind.now ≡ line ∷ behind = sym (rw c.in-Some.is at c.cut.ensures.cut) ∙ cutting in
       let same : line ≡ c.cut.result.0.now = cc in

@@ -1,7 +1,7 @@
-use Rattle.std.proofs.Common.{◌≡◌, ◌∙◌, ℕ, ◌<◌, ◌≤◌, Bool, true, false, List, length, map, take, refl, ap, sym, subst, arith}
+use Rattle.std.proofs.Common.{◌≡◌, ◌∙◌, ℕ, ◌<◌, ◌≤◌, Bool, true, false, List, length, take, refl, ap, sym, subst, arith}
 use Rattle.serial_terms.specs.declared.call.Done.{Done}
 use Rattle.serial_terms.specs.Entries.{Entry, by_caller, up_to}
-use Rattle.serial_terms.specs.Histories.{entry_of, IsLegalRun}
+use Rattle.serial_terms.specs.Histories.{IsLegalRun}
 use Rattle.serial_terms.specs.Ranges.{AreCallsOf, BelowCapacity}
 use Rattle.serial_terms.specs.Serial.{State}
 use Rattle.serial_terms.specs.Sights.{Seen, seen_of}
@@ -17,25 +17,27 @@ use Rattle.history_audit.proofs.Sized.{first_calls}
 use Rattle.history_audit.proofs.replay.Replay.admit.Goals as goal
 
 pub returns-then-not-end-clause-exactly : goal.returns-then-not-end-clause-exactly
-returns-then-not-end-clause-exactly c = λ vs o f. let z : Sizes = c.args.self.now.sizes in
+returns-then-not-end-clause-exactly c = λ es vs w o f. let z : Sizes = c.args.self.now.sizes in
     let t : c.is_end_in-end.result ≡ true = c.is_end_in-end.ensures.1 ((end_in z.tasks z.groups z.findings c.args.sight.now.end).0 f.within.end) in
     let bad : true ≡ false = sym t ∙ c.if-not-end.true in absurd (cc bad)
+
+pub advance-requires-clause-records : goal.advance-requires-clause-records
+advance-requires-clause-records c = c.requires
 
 pub sees-requires-clause-about : goal.sees-requires-clause-about
 sees-requires-clause-about c = let z : Sizes = c.args.self.now.sizes in
     first_calls z.tasks z.groups z.findings c.args.sight.now.dones (subst (AreCallsOf BelowCapacity (layout_of z)) c.as_slice.ensures (c.if-not-fit.ensures.0 refl))
 
 pub sees-requires-clause-listed : goal.sees-requires-clause-listed
-sees-requires-clause-listed c = listed_replay c.pools_are_counts.ensures c.advance.new.self c.args.self.now.sizes (map entry_of c.args.records.now) c.in_ok-advance.ensures.kept.sizes c.in_ok-advance.ensures.replay c.requires.whole
+sees-requires-clause-listed c = listed_replay c.pools_are_counts.ensures c.advance.new.self c.args.self.now.sizes c.requires.0 c.in_ok-advance.ensures.kept.sizes (c.in_ok-advance.ensures.replay c.requires.0 c.requires.1) c.requires.1.whole
 
 pub returns-clause-exactly : goal.returns-clause-exactly
-returns-clause-exactly c = λ vs o.
-    let es : List (Entry Done) = map entry_of c.args.records.now in
+returns-clause-exactly c = λ es vs w o.
     let v : Seen Done = seen_of c.args.sight.now in
     let z : Sizes = c.args.self.now.sizes in
     let k = c.in_ok-advance.ensures.kept in
-    let r = c.in_ok-advance.ensures.replay in
-    let reached : up_to v.place es ≡ take c.advance.new.self.done es = c.in_ok-advance.ensures.reached in
+    let r = c.in_ok-advance.ensures.replay es w in
+    let reached : up_to v.place es ≡ take c.advance.new.self.done es = c.in_ok-advance.ensures.reached es w in
     let low : v.caller < 16 = omega arith in
     let most : c.get-most.result ≡ most_after v.caller vs = c.get-most.ensures ∙ o.afters v.caller low in
     let above : c.get-most.result ≤ v.after = c.if-sight-most.false in
@@ -59,6 +61,7 @@ returns-clause-exactly c = λ vs o.
       };
       replay = record {
         done = r.done;
+        others = r.others;
         run = subst (λ (s : State). IsLegalRun (opening_of (layout_of c.advance.new.self.sizes)) (take c.advance.new.self.done es) s) (sym seen.1) r.run;
         counts = r.counts;
         low = r.low;

@@ -1,13 +1,14 @@
-use Rattle.std.proofs.Common.{◌-◌, length, map}
-use Rattle.serial_terms.specs.Histories.{entry_of}
-use Rattle.history_audit.specs.Replays.{IsReplayOf, KeepsOrder}
+use Rattle.std.proofs.Common.{◌+◌, List, length}
+use Rattle.serial_terms.specs.declared.call.Done.{Done}
+use Rattle.serial_terms.specs.Entries.{Entry}
+use Rattle.history_audit.specs.Replays.{AreRecordsOf, IsReplayOf, KeepsOrder, breadth}
 use Rattle.history_audit.proofs.replay.Replay.advance.Given as goal
 
 abbrev pub invariant-records : goal.invariant-records
 invariant-records l = record {
   kept : KeepsOrder l.fn.self l.self l.place;
-  replay : IsReplayOf l.self (map entry_of l.records);
+  replay : (es : List (Entry Done)) → AreRecordsOf l.fn.self es → IsReplayOf l.self es;
 }
 
 abbrev pub decreases-records : goal.decreases-records
-decreases-records l = length l.records - l.self.done
+decreases-records l = breadth l.self.next + length l.self.left.now
