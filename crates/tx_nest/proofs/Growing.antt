@@ -1,11 +1,11 @@
-use Rattle.std.proofs.Common.{◌≡◌, ℕ, zero, suc, ◌+◌, ◌<◌, ◌≤◌, List, [], ◌∷◌, ◌++◌, length, length-append, append_assoc, refl, ap, sym, subst, ◌∙◌, arith}
+use Rattle.std.proofs.Common.{◌≡◌, ℕ, zero, suc, ◌<◌, ◌≤◌, List, [], ◌++◌, length, length-append, append_assoc, refl, ap, sym, subst, ◌∙◌, arith}
 use Rattle.std.proofs.lemmas.List.{append-nil}
 use Rattle.cell_table.specs.declared.view.Event.{Event}
 use Rattle.tx_core.specs.declared.stop.Stop.{Stop}
 use Rattle.tx_core.specs.declared.stop.Stop.TheVariants.{Held, Newer, Memory}
 use Rattle.tx_core.specs.Causes.{CausedSince, IsFound}
 use Rattle.tx_core.specs.Facts.{caused_earlier, caused_longer}
-use Rattle.tx_nest.specs.Ends.{Grew, ChildEnded, ChildrenEnded, LastCaused}
+use Rattle.tx_nest.specs.Ends.{Grew, ChildrenEnded, LastCaused}
 
 pub grew_refl : (t : List Event) → Grew t t
 grew_refl t = ([], sym (append-nil t))

@@ -1,10 +1,12 @@
 -- How the children of one call end, by the steps in the trail.
-use Rattle.std.specs.Prelude.{◌≡◌, ℕ, ◌+◌, ◌<◌, ◌≤◌, List, ◌++◌, length, slice_get, Some}
+use Rattle.std.specs.Prelude.{◌≡◌, ℕ, ◌≤◌, List, ◌++◌, length, slice_get, Some}
 use Rattle.std.proofs.Common.{zero, suc}
 use Rattle.cell_table.specs.declared.view.Event.{Event}
 use Rattle.cell_table.specs.declared.view.Event.TheVariants.{ClockLoaded}
 use Rattle.tx_core.specs.Causes.{CausedSince, IsFound}
 use Rattle.tx_core.specs.declared.stop.Stop.{Stop}
+use Rattle.tx_core.specs.declared.stop.TxState.{TxState}
+use Rattle.tx_core.specs.declared.stop.TxState.TheVariants.{Running}
 use Rattle.tx_nest.specs.declared.tries.NestEnd.{NestEnd}
 use Rattle.tx_nest.specs.declared.tries.NestEnd.TheVariants.{Parent, Spent, Memory}
 
@@ -35,8 +37,34 @@ ChildrenEnded callers (suc n) version t stop next u = (v : List Event) × (w : �
 abbrev pub LastCaused : List ℕ → ℕ → List Event → Stop → ℕ → List Event → Type 0
 LastCaused callers version t stop next u = (w : ℕ) × (version ≤ w) × (w ≤ next) × CausedSince callers w (length t) u stop
 
--- what holds of an end: P of the parent's stop, S of the number of tries and the last stop, or M
-abbrev pub EndedBy : NestEnd → (Stop → Type 0) → (ℕ → Stop → Type 0) → Type 0 → Type 0
-EndedBy (Parent stop) P S M = P stop
-EndedBy (Spent n last) P S M = S n last
-EndedBy Memory P S M = M
+-- n children ended by Held or Newer, one after another, and the last stop has its cause
+abbrev pub IsSpent : List ℕ → ℕ → ℕ → List Event → Stop → ℕ → List Event → Type 0
+IsSpent callers n version t last next u = ChildrenEnded callers n version t last next u × LastCaused callers version t last next u
+
+-- After the first n steps the clock was loaded, and the stop was found, with its cause
+abbrev pub IsRefusedRaise : List ℕ → ℕ → ℕ → List Event → Stop → Type 0
+IsRefusedRaise callers version n u stop = IsFound stop × ((word : ℕ) × ClockedSince n u word) × CausedSince callers version n u stop
+
+-- a stop of the parent has P
+abbrev pub OnParent : NestEnd → (Stop → Type 0) → Type 0
+OnParent (Parent stop) P = P stop
+OnParent (Spent n last) P = Unit {0}
+OnParent Memory P = Unit {0}
+
+-- the number of children that were ended, and the stop of the last one, have P
+abbrev pub OnSpent : NestEnd → (ℕ → Stop → Type 0) → Type 0
+OnSpent (Parent stop) P = Unit {0}
+OnSpent (Spent n last) P = P n last
+OnSpent Memory P = Unit {0}
+
+-- after want of memory P holds
+abbrev pub OnMemory : NestEnd → Type 0 → Type 0
+OnMemory (Parent stop) P = Unit {0}
+OnMemory (Spent n last) P = Unit {0}
+OnMemory Memory P = P
+
+-- the attempt runs, unless its own stop is the end
+abbrev pub GoesOnUnlessParent : NestEnd → TxState → Type 0
+GoesOnUnlessParent (Parent stop) state = Unit {0}
+GoesOnUnlessParent (Spent n last) state = state ≡ Running
+GoesOnUnlessParent Memory state = state ≡ Running

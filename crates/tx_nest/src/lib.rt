@@ -2,6 +2,7 @@
 #![tactic(auto)]
 
 mod attempt;
+mod over_tx;
 mod tries;
 
 pub use attempt::{Attempt, ChildBody};

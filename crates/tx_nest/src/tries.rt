@@ -1,8 +1,8 @@
 //! A child that is tried again.
-ghost use Rattle.std.specs.Prelude.{◌≡◌, ℕ, ◌<◌, ◌≤◌, List, ◌++◌, length, IfOk, IfErr, OnErr};
-ghost use Rattle.tx_core.specs.Causes.{CausedSince, IsFound};
+ghost use Rattle.std.specs.Prelude.{◌≡◌, ℕ, ◌<◌, ◌≤◌, ◌⊎◌, false, List, ◌++◌, length, IfOk, IfErr, OnErr};
 ghost use Rattle.tx_core.specs.declared.stop.TxState.TheVariants.{Running, Stopped};
-ghost use Rattle.tx_nest.specs.Ends.{Grew, ChildrenEnded, LastCaused, EndedBy};
+ghost use Rattle.tx_nest.specs.declared.tries.NestEnd.TheVariants.{Memory};
+ghost use Rattle.tx_nest.specs.Ends.{Grew, IsRefusedRaise, IsSpent, OnParent, OnSpent, OnMemory, GoesOnUnlessParent};
 
 use crate::attempt::{Attempt, ChildBody};
 use std::thread;
@@ -27,14 +27,19 @@ pub fn nested<A: Attempt, B: ChildBody<A>>(
     tries: u32,
 ) -> Result<B::Out, NestEnd>
     requires state { A.state tx.old ≡ Running }
+    requires before_commit { A.committing tx.old ≡ false }
     requires tries { 0 < tries }
     requires can_run { B.can_run body.old (A.over tx.old) (A.calls tx.old) (A.pending tx.old) }
-    ensures same { (A.over tx.new ≡ A.over tx.old) × (A.fixed tx.new ≡ A.fixed tx.old) × (A.callers tx.new ≡ A.callers tx.old) }
+    ensures same { (A.over tx.new ≡ A.over tx.old) × (A.fixed tx.new ≡ A.fixed tx.old) × (A.callers tx.new ≡ A.callers tx.old) × (A.committing tx.new ≡ false) }
     ensures version { A.version tx.old ≤ A.version tx.new }
     ensures trail { Grew (A.trail tx.old) (A.trail tx.new) }
-    ensures vouches { (cs : List A.Call) (v : ℕ) → A.vouches tx.old cs v → A.vouches tx.new cs v }
+    ensures vouches { (c : A.Content) (v : ℕ) → A.vouches tx.old c v → A.vouches tx.new c v }
     ensures ok { IfOk result (λ out. (A.state tx.new ≡ Running) × ((added : List A.Call) × (A.calls tx.new ≡ A.calls tx.old ++ added) × B.runs body.old added out)) }
-    ensures err { IfErr result (λ end. EndedBy end (λ stop. (A.state tx.new ≡ Stopped) × IsFound stop × CausedSince (A.callers tx.old) (A.version tx.new) (length (A.trail tx.old)) (A.trail tx.new) stop) (λ n last. (n ≡ tries) × (A.state tx.new ≡ Running) × ChildrenEnded (A.callers tx.old) n (A.version tx.old) (A.trail tx.old) last (A.version tx.new) (A.trail tx.new) × LastCaused (A.callers tx.old) (A.version tx.old) (A.trail tx.old) last (A.version tx.new) (A.trail tx.new)) (A.state tx.new ≡ Running)) }
+    ensures parent { IfErr result (λ end. OnParent end (λ stop. (A.state tx.new ≡ Stopped) × IsRefusedRaise (A.callers tx.old) (A.version tx.new) (length (A.trail tx.old)) (A.trail tx.new) stop)) }
+    ensures spent { IfErr result (λ end. OnSpent end (λ n last. (n ≡ tries) × IsSpent (A.callers tx.old) n (A.version tx.old) (A.trail tx.old) last (A.version tx.new) (A.trail tx.new))) }
+    ensures memory { IfErr result (λ end. OnMemory end (A.refused tx.new ⊎ B.ran_out body.new)) }
+    ensures running { IfErr result (λ end. GoesOnUnlessParent end (A.state tx.new)) }
+    ensures sole { A.sole tx.old → IfErr result (λ end. end ≡ Memory) }
     ensures content { OnErr result (A.content tx.new ≡ A.content tx.old) }
     ensures again { B.can_run body.new (A.over tx.old) (A.calls tx.old) (A.pending tx.old) }
     ensures same_relation { (added : List A.Call) (out : B.Out) → B.runs body.new added out → B.runs body.old added out }

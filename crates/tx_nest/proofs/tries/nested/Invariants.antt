@@ -1,5 +1,4 @@
-use Rattle.std.proofs.Common.{◌≡◌, ℕ, ◌+◌, ◌<◌, ◌≤◌, List, ◌++◌, length}
-use Rattle.tx_core.specs.declared.stop.TxState.{TxState}
+use Rattle.std.proofs.Common.{◌≡◌, ℕ, ◌≤◌, false}
 use Rattle.tx_core.specs.declared.stop.TxState.TheVariants.{Running}
 use Rattle.tx_nest.specs.Ends.{Grew, ChildrenEnded}
 use Rattle.tx_nest.proofs.tries.nested.Given as goal
@@ -15,7 +14,9 @@ invariant-loop g l = record {
   calls : g.A.Attempt.calls l.tx ≡ g.A.Attempt.calls l.initial.tx;
   pending : g.A.Attempt.pending l.tx ≡ g.A.Attempt.pending l.initial.tx;
   trail : Grew (g.A.Attempt.trail l.initial.tx) (g.A.Attempt.trail l.tx);
+  committing : g.A.Attempt.committing l.tx ≡ false;
   vouches : (cs : _) (v : ℕ) → g.A.Attempt.vouches l.initial.tx cs v → g.A.Attempt.vouches l.tx cs v;
+  alone : g.A.Attempt.sole l.initial.tx → l.counter ≡ 0;
   can_run : g.B.ChildBody.can_run l.body (g.A.Attempt.over l.initial.tx) (g.A.Attempt.calls l.initial.tx) (g.A.Attempt.pending l.initial.tx);
   same_relation : (added : _) (out : _) → g.B.ChildBody.runs l.body added out → g.B.ChildBody.runs l.initial.body added out;
   ended : ChildrenEnded (g.A.Attempt.callers l.initial.tx) l.counter (g.A.Attempt.version l.initial.tx) (g.A.Attempt.trail l.initial.tx) l.last (g.A.Attempt.version l.tx) (g.A.Attempt.trail l.tx);
