@@ -1,12 +1,10 @@
 -- What the calls for a child leave of an attempt over cells.
 use Rattle.std.proofs.Common.{◌≡◌, ℕ, List, [], ◌∷◌, ◌++◌, length, Some, refl}
 use Rattle.std.specs.Prelude.{slice_get, Option, MatchOption, Result, Ok, Err, OnOk, IfErr}
-use Rattle.std.proofs.Math.Path.{fun_ext}
 use Rattle.cell_table.specs.declared.view.Event.{Event}
 use Rattle.cell_table.specs.declared.view.Event.TheVariants.{ClockLoaded}
 use Rattle.attempt_lists.specs.Cells.{Entries}
 use Rattle.tx_nest.specs.Ends.{Grew, ClockedSince}
-use Rattle.tx_nest.specs.OverTx.{Content}
 use Rattle.tx_nest.proofs.Growing.{grew_length}
 
 pub on_ok : {T E P Q R : Type 0} (r : Result T E) → (P → Q → R) → OnOk r P → OnOk r Q → OnOk r R
@@ -27,11 +25,3 @@ get_at_length (x ∷ t) more e = get_at_length t more e
 -- a load of the clock that comes after what grew
 pub clocked_after : (t u v more : List Event) (word : ℕ) → Grew t u → v ≡ u ++ ClockLoaded word ∷ more → ClockedSince (length t) v word
 clocked_after t u v more word grew e = (length u, grew_length t u grew, rw e (get_at_length u more (ClockLoaded word)))
-
--- contents are the same by their lists, and by what waits for each part
-pub same_content : {D : Type 0} (o p : Entries) (v w : List ℕ) (x y : Entries) (n k : List D) (h l : List (ℕ × ℕ)) (f g : ℕ → List ℕ)
-    → o ≡ p → v ≡ w → x ≡ y → n ≡ k → h ≡ l → ((part : ℕ) → f part ≡ g part)
-    → ◌≡◌ {A = Content D} (record { observations = o; versions = v; writes = x; notes = n; held = h; waiting = f }) (record { observations = p; versions = w; writes = y; notes = k; held = l; waiting = g })
-same_content o p v w x y n k h l f g a b c d e each =
-    let waits : f ≡ g = fun_ext each in
-    rw (a, b, c, d, e, waits) refl

@@ -1,10 +1,21 @@
--- What the content of an attempt over cells determines.
-use Rattle.std.specs.Prelude.{◌≡◌, ℕ, List, length}
-use Rattle.std.proofs.Common.{ap, ◌∙◌, sym}
+-- What the content of an attempt over cells determines, and what a child needs of its mark.
+use Rattle.std.specs.Prelude.{◌≡◌, ℕ, ◌≤◌, List, ◌++◌, length, take, Some}
+use Rattle.std.proofs.Common.{ap, refl, ◌∙◌, sym, arith, length-append}
+use Rattle.std.proofs.Math.Path.{fun_ext}
+use Rattle.std.proofs.lemmas.List.{take-append-le}
 use Rattle.cell_table.specs.Pass.{IsSole}
-use Rattle.attempt_lists.specs.Parts.{waiting_of}
+use Rattle.attempt_lists.specs.Cells.{Entries}
+use Rattle.attempt_lists.specs.Parts.{waiting_of, marked_of}
 use Rattle.tx_core.specs.Tx.{Attempt}
-use Rattle.tx_nest.specs.OverTx.{Content, Fixed, content_of, fixed_of}
+use Rattle.tx_nest.specs.OverTx.{Content, Fixed, content_of, fixed_of, remembered_by, HasMark}
+
+-- contents are the same by their lists, and by what waits for each part
+pub same_content : {D : Type 0} (o p : Entries) (v w : List ℕ) (x y : Entries) (n k : List D) (h l : List (ℕ × ℕ)) (f g : ℕ → List ℕ)
+    → o ≡ p → v ≡ w → x ≡ y → n ≡ k → h ≡ l → ((part : ℕ) → f part ≡ g part)
+    → ◌≡◌ {A = Content D} (record { observations = o; versions = v; writes = x; notes = n; held = h; waiting = f }) (record { observations = p; versions = w; writes = y; notes = k; held = l; waiting = g })
+same_content o p v w x y n k h l f g a b c d e each =
+    let waits : f ≡ g = fun_ext each in
+    rw (a, b, c, d, e, waits) refl
 
 module _ {M D : Type 0} where
   pub notes_of : (a b : Attempt M D) → content_of a ≡ content_of b → a.notes ≡ b.notes
@@ -16,3 +27,16 @@ module _ {M D : Type 0} where
   -- whether the pass holds every caller number
   pub sole_of : (a b : Attempt M D) → fixed_of a ≡ fixed_of b → IsSole b.pass → IsSole a.pass
   sole_of a b e s = ap (λ (f : Fixed D). length f.books) e ∙ s ∙ ap (λ (f : Fixed D). f.callers) (sym e)
+
+  -- an attempt that only observed and noted more since has the mark that it had
+  pub mark_kept : (a b : Attempt M D) (o : Entries) (v : List ℕ) (n : List D) → HasMark a → b.mark ≡ a.mark → b.observations ≡ a.observations ++ o → b.versions ≡ a.versions ++ v → b.notes ≡ a.notes ++ n
+      → ((part : ℕ) → marked_of b.additions part ≡ marked_of a.additions part) → (remembered_by b b.mark ≡ remembered_by a a.mark) × HasMark b
+  mark_kept a b o v n has same eo ev en waits =
+      let m = has.0 in
+      let is : b.mark ≡ Some m = same ∙ has.1 in
+      let lo = length-append a.observations o in
+      let lv = length-append a.versions v in
+      let ln = length-append a.notes n in (
+        ap (remembered_by b) is ∙ (same_content _ _ _ _ _ _ _ _ _ _ _ _ (rw eo (take-append-le m.observations a.observations o has.2)) (rw ev (take-append-le m.observations a.versions v has.3)) refl (rw en (take-append-le m.notes a.notes n has.4)) refl waits ∙ sym (ap (remembered_by a) has.1)),
+        (m, is, rw eo (omega (arith, lo, has.2)), rw ev (omega (arith, lv, has.3)), rw en (omega (arith, ln, has.4))),
+      )

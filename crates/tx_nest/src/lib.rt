@@ -2,6 +2,8 @@
 #![tactic(auto)]
 
 mod attempt;
+#[cfg(test)]
+mod nest_tests;
 mod over_tx;
 mod tries;
 

@@ -2,7 +2,7 @@ use Rattle.std.proofs.Common.{◌≡◌, ◌≤◌, Some, length, refl, ap, arit
 use Rattle.tx_core.specs.Tx.{Attempt}
 use Rattle.tx_core.specs.Calls.{mark_of}
 use Rattle.std.proofs.Math.Seq.{take-length}
-use Rattle.tx_nest.proofs.Dropping.{same_content}
+use Rattle.tx_nest.specs.OverTxLaws.{same_content}
 use Rattle.tx_nest.proofs.over_tx.TxAttempt.child_begin.Goals as goal
 
 pub returns-clause-marked : goal.returns-clause-marked
