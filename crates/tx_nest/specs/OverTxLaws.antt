@@ -1,12 +1,12 @@
 -- What the content of an attempt over cells determines, and what a child needs of its mark.
-use Rattle.std.specs.Prelude.{◌≡◌, ℕ, ◌≤◌, List, ◌++◌, length, take, Some}
+use Rattle.std.specs.Prelude.{◌≡◌, ℕ, ◌≤◌, List, [], ◌∷◌, ◌++◌, length, take, Option, Some, None}
 use Rattle.std.proofs.Common.{ap, refl, ◌∙◌, sym, arith, length-append}
 use Rattle.std.proofs.Math.Path.{fun_ext}
-use Rattle.std.proofs.lemmas.List.{take-append-le}
+use Rattle.std.proofs.lemmas.List.{append-nil, take-append-le}
 use Rattle.cell_table.specs.Pass.{IsSole}
-use Rattle.attempt_lists.specs.Cells.{Entries}
+use Rattle.attempt_lists.specs.Cells.{Entries, word_at}
 use Rattle.attempt_lists.specs.Parts.{waiting_of, marked_of}
-use Rattle.tx_core.specs.Tx.{Attempt}
+use Rattle.tx_core.specs.Tx.{Attempt, Observed}
 use Rattle.tx_nest.specs.OverTx.{Content, Fixed, content_of, fixed_of, remembered_by, HasMark}
 
 -- contents are the same by their lists, and by what waits for each part
@@ -40,3 +40,18 @@ module _ {M D : Type 0} where
         ap (remembered_by b) is ∙ (same_content _ _ _ _ _ _ _ _ _ _ _ _ (rw eo (take-append-le m.observations a.observations o has.2)) (rw ev (take-append-le m.observations a.versions v has.3)) refl (rw en (take-append-le m.notes a.notes n has.4)) refl waits ∙ sym (ap (remembered_by a) has.1)),
         (m, is, rw eo (omega (arith, lo, has.2)), rw ev (omega (arith, lv, has.3)), rw en (omega (arith, ln, has.4))),
       )
+
+  -- so has one that read a cell
+  pub mark_observed : (a b : Attempt M D) (cell x : ℕ) → HasMark a → Observed a b cell x → (remembered_by b b.mark ≡ remembered_by a a.mark) × HasMark b
+  mark_observed a b cell x has seen = mark_kept a b ((cell, x) ∷ []) (seen.version ∷ []) [] has (ap (λ (t : Attempt M D). t.mark) seen.is) (ap (λ (t : Attempt M D). t.observations) seen.is) (ap (λ (t : Attempt M D). t.versions) seen.is)
+      (ap (λ (t : Attempt M D). t.notes) seen.is ∙ sym (append-nil a.notes)) (λ part. ap (λ (t : Attempt M D). marked_of t.additions part) seen.is)
+
+  pub mark_read : (a b : Attempt M D) (cell x : ℕ) (written seen : Option ℕ) → word_at a.writes cell ≡ written → word_at a.observations cell ≡ seen → HasMark a
+      → ((y : ℕ) → word_at a.writes cell ≡ Some y → b ≡ a) → ((y : ℕ) → word_at a.writes cell ≡ None → word_at a.observations cell ≡ Some y → b ≡ a) → (word_at a.writes cell ≡ None → word_at a.observations cell ≡ None → Observed a b cell x)
+      → (remembered_by b b.mark ≡ remembered_by a a.mark) × HasMark b × (b.committing ≡ a.committing)
+  mark_read a b cell x (Some y) seen w s has own before observes = rw (own y w) (refl, has, refl)
+  mark_read a b cell x None (Some y) w s has own before observes = rw (before y w s) (refl, has, refl)
+  mark_read a b cell x None None w s has own before observes =
+      let now = observes w s in
+      let kept = mark_observed a b cell x has now in
+      (kept.0, kept.1, ap (λ (t : Attempt M D). t.committing) now.is)
