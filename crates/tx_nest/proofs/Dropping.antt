@@ -3,7 +3,6 @@ use Rattle.std.proofs.Common.{◌≡◌, ℕ, List, [], ◌∷◌, ◌++◌, len
 use Rattle.std.specs.Prelude.{slice_get, Option, MatchOption, Result, Ok, Err, OnOk, IfErr}
 use Rattle.cell_table.specs.declared.view.Event.{Event}
 use Rattle.cell_table.specs.declared.view.Event.TheVariants.{ClockLoaded}
-use Rattle.attempt_lists.specs.Cells.{Entries}
 use Rattle.tx_nest.specs.Ends.{Grew, ClockedSince}
 use Rattle.tx_nest.proofs.Growing.{grew_length}
 

@@ -1,4 +1,4 @@
-use Rattle.std.proofs.Common.{◌≡◌, ◌∙◌, refl}
+use Rattle.std.proofs.Common.{◌∙◌, refl}
 use Rattle.attempt_lists.specs.Cells.{word_at}
 use Rattle.tx_core.specs.Facts.{observes_grows}
 use Rattle.tx_nest.specs.OverTxLaws.{mark_read}
@@ -11,7 +11,7 @@ pub returns-clause-kept : goal.returns-clause-kept
 returns-clause-kept c =
     let old = c.args.tx.now in
     let kept = mark_read old c.read.new.self 0 c.in_ok-value.value (word_at old.writes 0) (word_at old.observations 0) refl refl c.requires.marked
-      (λ y w. (c.read.ensures.own y w).1) (λ y w s. (c.read.ensures.seen_before y w s).1) (λ w s. c.in_ok-value.ensures.observes w s) in
+    (λ y w. (c.read.ensures.own y w).1) (λ y w s. (c.read.ensures.seen_before y w s).1) (λ w s. c.in_ok-value.ensures.observes w s) in
     (c.read.ensures.looks.does.version, kept.0, kept.1, kept.2 ∙ c.requires.before_commit)
 
 pub returns-clause-vouches : goal.returns-clause-vouches
