@@ -1,4 +1,4 @@
-use crate::{Draws, trial_rules};
+use crate::{Draws, push_lengths, push_time, push_udp_header, trial_rules};
 use std::test::Fail;
 
 #[test]
@@ -15,5 +15,27 @@ rule b proto udp dport 53 has \"abc\" nocase
 rule c proto any has \"|61 62|\" from 8 to 40
 ";
     assert_eq!(rt; trial_rules(), text.as_slice());
+    Ok(())
+}
+
+#[test]
+fn the_record_header_of_an_only_packet_of_60_bytes_is_as_worked_by_hand(
+    rt: HostRuntime,
+) -> Result<(), Fail> {
+    let mut bytes = Vec::new(rt.alloc());
+    push_time(&mut bytes, 0)?;
+    push_lengths(&mut bytes, 60)?;
+    assert_eq!(rt;
+        bytes.as_slice(),
+        b"\0\0\0\0\0\0\0\0<\0\0\0<\0\0\0".as_slice()
+    );
+    Ok(())
+}
+
+#[test]
+fn a_udp_header_has_the_port_of_its_datagram(rt: HostRuntime) -> Result<(), Fail> {
+    let mut bytes = Vec::new(rt.alloc());
+    push_udp_header(&mut bytes, 1, 40)?;
+    assert_eq!(rt; bytes.as_slice(), [15, 160, 0, 9, 0, 48, 0, 0].as_slice());
     Ok(())
 }
