@@ -1,3 +1,5 @@
 pub mod Draws
 pub mod Headers
+pub mod Packets
 pub mod TrialRules
+pub mod Written

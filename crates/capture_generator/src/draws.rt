@@ -1,6 +1,8 @@
 // The numbers that are drawn from a seed.
-ghost use Rattle.std.specs.Prelude.{◌≡◌};
-ghost use Rattle.capture_generator.specs.Draws.{given_by, letter_of, next_state};
+ghost use Rattle.std.specs.Prelude.{◌≡◌, length, IfOk};
+ghost use Rattle.capture_generator.specs.Draws.{given_by, letter_of, letters, next_state, state_after};
+
+use std::alloc::{AllocError, Global};
 
 const MULTIPLIER: u64 = 6_364_136_223_846_793_005;
 
@@ -29,5 +31,19 @@ impl Draws {
         ensures letter { result ≡ letter_of (given_by (next_state self.old.state)) }
     {
         b'a' + (self.draw() % 26) as u8
+    }
+
+    /// So many letters, by as many draws.
+    #[tactic(auto, unfolding(crate::specs::Draws::letters, crate::specs::Draws::state_after))]
+    pub(crate) fn letters(&mut self, alloc: Global, number: u32) -> Result<Vec<u8>, AllocError>
+        ensures state { IfOk result (λ _. self.new.state ≡ state_after self.old.state number) }
+        ensures letters { IfOk result (λ drawn. drawn.items ≡ letters self.old.state number) }
+        ensures count { IfOk result (λ drawn. length drawn.items ≡ number) }
+    {
+        let mut drawn = Vec::new(alloc);
+        for _ in 0..number {
+            drawn.push(self.letter())?;
+        }
+        Ok(drawn)
     }
 }

@@ -1,13 +1,15 @@
-//! What a generated capture is made from: the numbers drawn from a seed, and the headers
-//! of its packets; and the rules of a trial over it.
+//! The capture that is generated from a seed, and the rules of a trial over it.
 #![tactic(auto)]
 
+mod capture;
 mod draws;
 mod headers;
+mod packets;
 #[cfg(test)]
 mod tests;
 mod trial;
+mod written;
 
+pub use capture::generated;
 pub use draws::Draws;
-pub use headers::{push_lengths, push_time, push_udp_header};
 pub use trial::trial_rules;

@@ -1,0 +1,28 @@
+// The generated capture.
+ghost use Rattle.std.specs.Prelude.{◌≡◌, ◌≤◌, IfOk};
+ghost use Rattle.capture_generator.specs.Packets.{generated_capture};
+
+use crate::draws::Draws;
+use crate::written::Written;
+use std::alloc::{AllocError, Global};
+
+/// A capture with so many packets, at most 262,144, drawn from a seed: whole datagrams of UDP,
+/// datagrams in three fragments, some with a fourth that clashes, and packets without a datagram.
+/// Equal seeds give equal captures.
+pub fn generated(alloc: Global, seed: u64, frames: u32) -> Result<Vec<u8>, AllocError>
+    requires { frames ≤ 262144 }
+    ensures { IfOk result (λ bytes. bytes.items ≡ generated_capture seed frames) }
+{
+    let mut written = Written::new(alloc, frames)?;
+    let mut draws = Draws { state: seed };
+    let mut datagram = 0;
+    // Each line has one packet at least, and those beyond the limit are dropped.
+    for _ in 0..frames {
+        let kind = draws.draw() % 8;
+        written.push_line(alloc, &mut draws, kind, datagram)?;
+        if kind != 4 {
+            datagram += 1;
+        }
+    }
+    Ok(written.bytes)
+}
