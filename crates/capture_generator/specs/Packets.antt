@@ -95,6 +95,10 @@ unfoldable pub records_from : ℕ → List (List ℕ) → List ℕ
 records_from number [] = []
 records_from number (packet ∷ packets) = record_of number packet ++ records_from (suc number) packets
 
--- the capture with so many packets. As many lines suffice, since each has one packet at least.
+-- so many packets. As many lines suffice, since each has one packet at least.
+abbrev pub packets_of : ℕ → ℕ → List (List ℕ)
+packets_of seed packets = take packets (lines_of seed packets)
+
+-- the capture with so many packets
 unfoldable pub generated_capture : ℕ → ℕ → List ℕ
-generated_capture seed packets = file_header ++ records_from 0 (take packets (lines_of seed packets))
+generated_capture seed packets = file_header ++ records_from 0 (packets_of seed packets)

@@ -1,6 +1,6 @@
 // The generated capture.
-ghost use Rattle.std.specs.Prelude.{◌≡◌, ◌≤◌, IfOk};
-ghost use Rattle.capture_generator.specs.Packets.{generated_capture};
+ghost use Rattle.std.specs.Prelude.{◌≡◌, ◌<◌, ◌≤◌, length, IfOk};
+ghost use Rattle.capture_generator.specs.Packets.{generated_capture, packets_of};
 
 use crate::draws::Draws;
 use crate::written::Written;
@@ -11,7 +11,8 @@ use std::alloc::{AllocError, Global};
 /// Equal seeds give equal captures.
 pub fn generated(alloc: Global, seed: u64, frames: u32) -> Result<Vec<u8>, AllocError>
     requires { frames ≤ 262144 }
-    ensures { IfOk result (λ bytes. bytes.items ≡ generated_capture seed frames) }
+    ensures bytes { IfOk result (λ bytes. bytes.items ≡ generated_capture seed frames) }
+    ensures short { IfOk result (λ bytes. length bytes.items < 32000000) }
 {
     let mut written = Written::new(alloc, frames)?;
     let mut draws = Draws { state: seed };
@@ -26,3 +27,8 @@ pub fn generated(alloc: Global, seed: u64, frames: u32) -> Result<Vec<u8>, Alloc
     }
     Ok(written.bytes)
 }
+
+/// A generated capture has as many packets as were asked for.
+pub fn packets_law(seed: u64, frames: u32)
+    ensures { length (packets_of seed frames) ≡ frames }
+{}

@@ -1,6 +1,8 @@
 use Rattle.std.proofs.Common.{◌≡◌, ◌++◌, ℕ, take, refl, arith, ap, ◌∙◌}
 use Rattle.capture_generator.specs.Headers.{file_header}
 use Rattle.capture_generator.specs.Packets.{lines_of, line_state, datagrams_before, records_from, generated_capture}
+use Rattle.std.proofs.Common.{List, length, ◌<◌, subst, sym}
+use Rattle.capture_generator.proofs.Lengths.{capture_short}
 use Rattle.capture_generator.proofs.Lines.{state_more, lines_more, datagrams_more, datagrams_same}
 use Rattle.capture_generator.proofs.capture.generated.Goals as goal
 use Rattle.capture_generator.proofs.capture.generated.Goals.{then-kind-ne4, else-kind-ne4}
@@ -21,8 +23,11 @@ loop-preserved c =
       | else-kind-ne4 w ↦ (lines, state, datagrams_same c.args.seed c.loop.counter _ _ _ at moved gave _ _ c.loop.invariant.2 w.if-kind-ne4.false w.datagram-is, omega (arith, w.datagram-is, c.loop.invariant.3))
     ]
 
-pub returns : goal.returns
+pub returns-clause-bytes : goal.returns-clause-bytes
 unfolding generated_capture
-returns c =
+returns-clause-bytes c =
     let ended : c.loop.counter ≡ c.args.frames = omega arith in
     c.loop.invariant.0.bytes ∙ ap (λ (n : ℕ). file_header ++ records_from 0 (take c.args.frames (lines_of c.args.seed n))) ended
+
+pub returns-clause-short : goal.returns-clause-short
+returns-clause-short c = subst (λ (l : List ℕ). length l < 32000000) (sym (returns-clause-bytes c)) (capture_short c.args.seed c.args.frames c.requires)
