@@ -1,5 +1,5 @@
 -- Histories and sights with keys under other names.
-use Rattle.std.proofs.Common.{◌≡◌, ℕ, ◌+◌, ◌<◌, eqb, leb, List, [], ◌∷◌, ⊎_elim, sym, refl, ap, ◌∙◌, subst}
+use Rattle.std.proofs.Common.{◌≡◌, ℕ, ◌+◌, eqb, leb, List, [], ◌∷◌, ⊎_elim, sym, refl, ap, ◌∙◌, subst}
 use Rattle.std.specs.Prelude.{Option, Some, None}
 use mathlib.Core.Path.{fun_ext}
 use Rattle.serial_terms.specs.declared.call.Done.{Done}
@@ -9,12 +9,13 @@ use Rattle.serial_terms.specs.declared.store.Layout.{Layout}
 use Rattle.serial_terms.specs.Entries.{Entry, Each, OrderedBy, by_caller, up_to, IsCountedFrom}
 use Rattle.serial_terms.specs.Histories.{IsLegalRun, IsLegalHistory}
 use Rattle.serial_terms.specs.Laws.{RenamingKeepsHistories, NamesChangeKeys}
+use Rattle.serial_terms.specs.Names.{of_key_map, own_calls}
 use Rattle.serial_terms.specs.Purposes.{RenamedStayAllowed}
 use Rattle.serial_terms.specs.Renaming.{IsOneToOne, value_at, by_keys, NamedDone, AreNamesOfKeys, by_key, by_name, entry_with, entries_with, seen_with, AreNamesIn, MayName, SameButKeys}
 use Rattle.serial_terms.specs.Serial.{State, IsWithinCapacity}
 use Rattle.serial_terms.specs.Sights.{Seen, EndsAs, IsConsistent}
 use Rattle.serial_terms.specs.Stores.{opening_of}
-use Rattle.serial_terms.proofs.Renaming.{runs_keyed, own_key, of_key_map}
+use Rattle.serial_terms.proofs.Renaming.{runs_keyed}
 use Rattle.std.proofs.lemmas.Bool.{cases_Bool, cond-true, cond-false}
 
 -- ---- records with other calls
@@ -112,17 +113,8 @@ module _ (passes : ℕ → ℕ → Type 0) where
   renamed_calls name may [] a = tt
   renamed_calls name may (d ∷ ds) a = ((d.name, of_key_map (λ m k. name m k ≡ Some d.name) (λ m k. MayName passes d.name k) (λ m k e. may m k d.name e) d.done.call a.0, refl), renamed_calls name may ds a.1)
 
-  own_calls : ((c j : ℕ) → passes c j → j < c) → (ds es : List Done) → SameButKeys passes ds es → es ≡ ds
-  own_calls low [] [] a = refl
-  own_calls low [] (e ∷ es) a = absurd a
-  own_calls low (d ∷ ds) [] a = absurd a
-  own_calls low (d ∷ ds) (e ∷ es) a =
-      let c = own_key a.0.0 d.call (of_key_map (λ m k. MayName passes a.0.0 k) (λ m k. a.0.0 ≡ k) (λ m k h. h low) d.call a.0.1) in
-      let rest = own_calls low ds es a.1 in
-      let same : e ≡ d = a.0.2 ∙ (λ i. record { call = c i; reply = d.reply; child = d.child }) in λ i. same i ∷ rest i
-
   pub names_change : NamesChangeKeys passes
-  names_change = record { renamed = renamed_calls; own = own_calls }
+  names_change = record { renamed = renamed_calls; own = own_calls passes }
 
   pub stay_allowed : (allowed : List Done → Type 0) → RenamedStayAllowed allowed passes
   stay_allowed allowed law name may [] a b = tt

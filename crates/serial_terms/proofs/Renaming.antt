@@ -10,7 +10,8 @@ use Rattle.serial_terms.specs.declared.call.Reply.{Reply}
 use Rattle.serial_terms.specs.declared.call.Reply.TheVariants.{Nothing, Absent, Value, Flag}
 use Rattle.serial_terms.specs.Counts.{with_at}
 use Rattle.serial_terms.specs.Laws.{RenamingKeepsRuns, OwnNamesAreKeys}
-use Rattle.serial_terms.specs.Renaming.{with_key, OfKey, IsNameOfKey, IsOneToOne, value_at, by_keys, NamedDone, named, AreNamesOfKeys, by_key, by_name}
+use Rattle.serial_terms.specs.Names.{own_key, of_key_map}
+use Rattle.serial_terms.specs.Renaming.{with_key, IsNameOfKey, IsOneToOne, value_at, by_keys, NamedDone, named, AreNamesOfKeys, by_key, by_name}
 use Rattle.serial_terms.specs.Histories.{Runs}
 use Rattle.serial_terms.specs.Serial.{State, Allows, after, found, put_map, by_value, after_take, after_give, step}
 use Rattle.serial_terms.specs.Facts.{with_at_same, with_at_other}
@@ -132,20 +133,6 @@ pub renamed : RenamingKeepsRuns
 renamed name one ds a s = (λ t r. runs_keyed name one ds a s t r, λ u r. runs_named name one ds a s u r)
 
 -- what is true of the call's key, if it has a key
-pub of_key_map : (P Q : ℕ → ℕ → Type 0) → ((m k : ℕ) → P m k → Q m k) → (c : Call) → OfKey P c → OfKey Q c
-of_key_map P Q f (MapGet m k) o = f m k o
-of_key_map P Q f (MapPut m k v) o = f m k o
-of_key_map P Q f (MapRemove m k) o = f m k o
-of_key_map P Q f (MapPutIfAbsent m k v) o = f m k o
-of_key_map P Q f _ o = tt
-
-pub own_key : (n : ℕ) (c : Call) → OfKey (λ m k. n ≡ k) c → with_key n c ≡ c
-own_key n (MapGet m k) a = ap (λ (z : ℕ). MapGet m z) a
-own_key n (MapPut m k v) a = ap (λ (z : ℕ). MapPut m z v) a
-own_key n (MapRemove m k) a = ap (λ (z : ℕ). MapRemove m z) a
-own_key n (MapPutIfAbsent m k v) a = ap (λ (z : ℕ). MapPutIfAbsent m z v) a
-own_key n _ a = refl
-
 pub own_names : OwnNamesAreKeys
 own_names name own [] a = refl
 own_names name own (d ∷ ds) a =

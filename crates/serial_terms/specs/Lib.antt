@@ -11,6 +11,7 @@ pub mod Sights
 pub mod Stores
 pub mod Parts
 pub mod Renaming
+pub mod Names
 pub mod Worked
 pub mod Wrong
 pub mod Laws
