@@ -10,7 +10,7 @@ impl<'a, M: Meaning> Tx<'a, M> {
     ghost use Rattle.cell_table.specs.declared.view.Stage.TheVariants.{Open};
     ghost use Rattle.cell_table.specs.Steps.{Observes};
     ghost use Rattle.cell_table.specs.Writers.{Alone};
-    ghost use Rattle.cell_table.specs.Pass.{IsSole};
+    ghost use Rattle.cell_table.specs.Pass.{IsPassOf, IsSole};
     ghost use Rattle.cell_table.specs.IsPass.{IsPass};
     ghost use Rattle.cell_table.specs.Legal.{LegalNow};
     ghost use Rattle.cell_table.specs.Moments.{Moments};
@@ -46,6 +46,14 @@ impl<'a, M: Meaning> Tx<'a, M> {
         ensures early { self.now.committing ≡ false → (i : ℕ) → i < length self.now.observations → slice_index self.now.versions i ≤ self.now.version }
         ensures sized { length self.now.versions ≡ length self.now.observations }
         ensures undrawn { self.now.committing ≡ false → self.now.pass.view.stage ≡ Open }
+    {
+        self.table.limits_law();
+    }
+
+    /// The pass of an attempt is one of its table, and knows the attempt's version.
+    pub fn pass_law(&self)
+        ensures of { IsPassOf self.now.table self.now.pass }
+        ensures known { self.now.version ≤ self.now.pass.view.known }
     {
         self.table.limits_law();
     }

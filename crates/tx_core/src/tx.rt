@@ -53,7 +53,7 @@ impl<'a, M: Meaning> Tx<'a, M> {
     ghost use Rattle.cell_table.specs.declared.view.Event.TheVariants.{ClockLoaded};
     ghost use Rattle.cell_table.specs.declared.view.Stage.TheVariants.{Open, Drawn};
     ghost use Rattle.cell_table.specs.Steps.{IsIdle, Grows, clocked, Observes};
-    ghost use Rattle.cell_table.specs.Pass.{IsPassOf, IsSole, trail_of, note, with_view};
+    ghost use Rattle.cell_table.specs.Pass.{IsPassOf, IsSole, acting, trail_of, note, with_view};
     ghost use Rattle.attempt_lists.specs.Cells.{Entries, word_at, word_of, cell_at, put, IsAscending};
     ghost use Rattle.attempt_lists.specs.Parts.{waiting_of};
     ghost use Rattle.tx_core.specs.declared.stop.Stop.TheVariants.{Memory};
@@ -80,6 +80,7 @@ impl<'a, M: Meaning> Tx<'a, M> {
         ensures pass { IfOk result (λ tx. tx.pass ≡ record pass { view = clocked pass.view tx.version; reserved = tx.pass.reserved }) }
         ensures version { IfOk result (λ tx. (trail_of tx.pass ≡ trail_of pass ++ ClockLoaded tx.version ∷ []) × (pass.seen ≤ tx.version)) }
         ensures begun { IfOk result (λ tx. begun tx ≡ length (trail_of pass)) }
+        ensures grows { IfOk result (λ tx. Grows pass.view tx.pass.view) }
         ensures refused { IfErr result (λ back. back.0 ≡ pass) }
     {
         table.limits_law();
@@ -119,6 +120,13 @@ impl<'a, M: Meaning> Tx<'a, M> {
         ensures { result ≡ self.now.version }
     {
         self.version
+    }
+
+    /// The caller under which the attempt is made: the least one that its pass holds.
+    pub fn caller(&self) -> u32
+        ensures { result ≡ acting self.now.pass }
+    {
+        self.pass.caller()
     }
 
     /// Whether a cell is written.
