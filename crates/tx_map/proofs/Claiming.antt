@@ -6,9 +6,8 @@ use Rattle.key_directory.specs.Directory.{DirectoryView, PassView, Claimed, clai
 use Rattle.key_directory.specs.declared.directory.KeysFull.{KeysFull as Full}
 use Rattle.key_directory.specs.declared.view.Claim.{Claim}
 use Rattle.tx_map.specs.declared.part.MapPart.{MapPart}
-use Rattle.tx_map.specs.declared.part.MapStop.{MapStop}
-use Rattle.tx_map.specs.declared.part.MapStop.TheVariants.{Stop, KeysFull}
-use Rattle.tx_map.specs.Calls.{IsRegionOf, HasKey, position_of, ClaimsKey, IfFull}
+use Rattle.tx_map.specs.declared.part.MapStop.TheVariants.{KeysFull}
+use Rattle.tx_map.specs.Calls.{IsRegionOf, HasKey, position_of, ClaimsKey}
 
 some_of : (o : Option ℕ) → IsSome o → o ≡ Some (unwrap_or o 0)
 some_of (Some x) h = refl
@@ -89,9 +88,3 @@ module _ (part : MapPart) (passes : ℕ → ℕ → Type 0) (key : ℕ) (old new
       refused = (names ∙ region.1, claims);
       own_number = λ below. (λ _. never (rw region.1 below), tt);
     }
-
--- how a call ends after its claim says nothing else of the claim
-pub claims_go_on : {A B : Type 0} → (part : MapPart) (passes : ℕ → ℕ → Type 0) (key : ℕ) (old new : PassView) (a : A) (r : Result B MapStop) → IfFull r (λ capacity. ⊥) → ClaimsKey part passes key old new (Ok a) → ClaimsKey part passes key old new r
-claims_go_on part passes key old new a (Ok b) never c = record { pass = c.pass; stays = c.stays; only = c.only; trail = c.trail; steps = c.steps; claimed = c.claimed; full = c.full; refused = tt; own_number = c.own_number }
-claims_go_on part passes key old new a (Err (Stop stop)) never c = record { pass = c.pass; stays = c.stays; only = c.only; trail = c.trail; steps = c.steps; claimed = c.claimed; full = c.full; refused = tt; own_number = c.own_number }
-claims_go_on part passes key old new a (Err (KeysFull capacity)) never c = absurd never

@@ -69,7 +69,7 @@ impl MapPart {
         ensures exact { WritesBy (cell_of self.now keys.new key) (value + 1) tx.old tx.new result }
     {
         let position = self.position_of(directory, keys, key)?;
-        self.store(tx, position, value + 1)?;
+        self.put_at(tx, position, value)?;
         Ok(())
     }
 
@@ -97,7 +97,7 @@ impl MapPart {
         ensures exact { WritesBy (cell_of self.now keys.new key) 0 tx.old tx.new result }
     {
         let position = self.position_of(directory, keys, key)?;
-        self.store(tx, position, 0)?;
+        self.remove_at(tx, position)?;
         Ok(())
     }
 
@@ -129,12 +129,14 @@ impl MapPart {
         ensures exact { FillsBy (cell_of self.now keys.new key) (value + 1) tx.old tx.new result }
     {
         let position = self.position_of(directory, keys, key)?;
-        let there = self.fill(tx, position, value)?;
+        let there = self.put_if_absent_at(tx, position, value)?;
         Ok(there)
     }
 
-    // The value of the key of the position, or `None` where it was absent and got the new value.
-    fn fill<M: Meaning>(
+    /// The value of the key that has the position, which stays; or `None` where it was absent, and then it has the new value.
+    ///
+    /// After a stop the attempt is stopped, and nothing is written.
+    pub fn put_if_absent_at<M: Meaning>(
         &self,
         tx: &mut Tx<'_, M>,
         position: u32,
@@ -162,8 +164,14 @@ impl MapPart {
         }
     }
 
-    // The value of the key of the position, by a read of its cell.
-    fn value_at<M: Meaning>(&self, tx: &mut Tx<'_, M>, position: u32) -> Result<Option<u64>, Stop>
+    /// The value of the key that has the position, or `None` where it is absent, by a read of its cell.
+    ///
+    /// After a stop the attempt is stopped.
+    pub fn value_at<M: Meaning>(
+        &self,
+        tx: &mut Tx<'_, M>,
+        position: u32,
+    ) -> Result<Option<u64>, Stop>
         requires callable { MayCall tx.old }
         requires cells { IsFormed self.now tx.old.table.opening }
         requires position { position < self.now.capacity }
@@ -181,7 +189,47 @@ impl MapPart {
         Ok(word.checked_sub(1))
     }
 
-    // Writes the word of the key of the position.
+    /// Gives the key that has the position a value, whether or not it has one. It looks at nothing.
+    ///
+    /// After want of memory the attempt is stopped.
+    pub fn put_at<M: Meaning>(
+        &self,
+        tx: &mut Tx<'_, M>,
+        position: u32,
+        value: u64,
+    ) -> Result<(), AllocError>
+        requires callable { MayCall tx.old }
+        requires cells { IsFormed self.now tx.old.table.opening }
+        requires position { position < self.now.capacity }
+        requires value { value < 2 ^ 64 - 1 }
+        ensures map { OnOk result (Explains (IsFormed self.now) tx.old tx.new (Puts self.now position (Some value))) }
+        ensures looks { LooksAt (λ c. c ≡ self.now.base + position) 0 tx.old tx.new (memory_in result) }
+        ensures blind { tx.new.pass ≡ record tx.old.pass { places = tx.new.pass.places } }
+        ensures stays { Stays tx.old tx.new × (tx.new.writes ≡ (if is_ok result then put tx.old.writes (self.now.base + position) (value + 1) else tx.old.writes)) }
+        ensures ok { OnOk result (Writes (self.now.base + position) (value + 1) tx.old tx.new) }
+        ensures stopped { OnErr result (IsStopped tx.old tx.new) }
+    {
+        self.store(tx, position, value + 1)
+    }
+
+    /// Makes the key that has the position absent, whether or not it has a value. It looks at nothing.
+    ///
+    /// After want of memory the attempt is stopped.
+    pub fn remove_at<M: Meaning>(&self, tx: &mut Tx<'_, M>, position: u32) -> Result<(), AllocError>
+        requires callable { MayCall tx.old }
+        requires cells { IsFormed self.now tx.old.table.opening }
+        requires position { position < self.now.capacity }
+        ensures map { OnOk result (Explains (IsFormed self.now) tx.old tx.new (Puts self.now position None)) }
+        ensures looks { LooksAt (λ c. c ≡ self.now.base + position) 0 tx.old tx.new (memory_in result) }
+        ensures blind { tx.new.pass ≡ record tx.old.pass { places = tx.new.pass.places } }
+        ensures stays { Stays tx.old tx.new × (tx.new.writes ≡ (if is_ok result then put tx.old.writes (self.now.base + position) 0 else tx.old.writes)) }
+        ensures ok { OnOk result (Writes (self.now.base + position) 0 tx.old tx.new) }
+        ensures stopped { OnErr result (IsStopped tx.old tx.new) }
+    {
+        self.store(tx, position, 0)
+    }
+
+    // Writes the word of the key that has the position.
     fn store<M: Meaning>(
         &self,
         tx: &mut Tx<'_, M>,
@@ -203,8 +251,10 @@ impl MapPart {
         tx.write(self.base + position, word)
     }
 
-    // Claims the position of a key.
-    fn position_of<K: KeyTest>(
+    /// The position of a key, which it has for good from now on. Another call may be made with it in place of the key.
+    ///
+    /// The only error is `KeysFull`, exactly where each position of the region was found to have another key.
+    pub fn position_of<K: KeyTest>(
         &self,
         directory: &Directory<K>,
         keys: &mut KeyPass<K>,
