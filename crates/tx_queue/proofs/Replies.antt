@@ -6,6 +6,7 @@ use Rattle.std.proofs.lemmas.List.{length-append, get_or-set_other}
 use Rattle.cell_table.specs.Cells.{AllHold, after, has}
 use Rattle.cell_table.specs.Rule.{cells_of}
 use Rattle.attempt_lists.specs.Cells.{Entries, word_at, put}
+use Rattle.attempt_lists.specs.Parts.{Waiting, waiting_of}
 use Rattle.store_layout.specs.States.{head_in, length_in}
 use Rattle.tx_core.specs.Tx.{Attempt}
 use Rattle.tx_core.specs.Parts.{Shows}
@@ -16,7 +17,7 @@ use Rattle.tx_core.specs.Sequences.{FoundEnd, HasLength, Settles}
 use Rattle.tx_core.specs.SequencePlaces.{found_stays}
 use Rattle.tx_core.specs.declared.stop.Stop.{Stop}
 use Rattle.tx_queue.specs.declared.part.QueuePart.{QueuePart}
-use Rattle.tx_queue.specs.Queue.{IsQueue, MakesOf, Dequeues, IsFront, IsEndAlone, end_in, values_in, sequence_of, front_of, end_after}
+use Rattle.tx_queue.specs.Queue.{IsQueue, MakesOf, Dequeues, IsFront, IsEndAlone, LeavesRest, end_in, values_in, sequence_of, front_of, end_after}
 use Rattle.tx_queue.proofs.Rings.{first_of_both}
 use Rattle.tx_queue.proofs.Queues.{length-values, place_below, none_there, queue_dequeued}
 
@@ -75,6 +76,12 @@ module _ {M D : Type 0} (queue : QueuePart) where
       let rest : values_in queue (after cells d.writes) ++ waiting queue.part d ≡ drop 1 (values_in queue them ++ waiting queue.part b) = rw (new_cells, dadds) (ap (λ (v : List ℕ). v ++ waiting queue.part b) took.1 ∙ sym split.1) in
       (rw new_cells took.0, rw (← ws, ← adds) (first, rest))
 
+  -- the first of the own additions is gone, or none
+  pub own_rest : (a b d : Attempt M D) (x : Option ℕ) (S : Type 0) → b.additions ≡ a.additions
+      → MatchOption x ((waiting queue.part b ≡ []) × (d ≡ b)) (λ value. (waiting queue.part b ≡ value ∷ waiting queue.part d) × S) → LeavesRest queue a d
+  own_rest a b d None S adds h = inl (ap (λ (t : Attempt M D). waiting queue.part t) h.1 ∙ ap (λ (ws : List Waiting). waiting_of ws queue.part) adds)
+  own_rest a b d (Some v) S adds h = inr (v, sym (ap (λ (ws : List Waiting). waiting_of ws queue.part) adds) ∙ h.0)
+
   -- ---- the footprint
 
   pub own_holds : (a b d : Attempt M D) → HoldsAt (λ c. c ≡ queue.end) 3 a b None → d ≡ record b { additions = d.additions } → StepsAt (λ c. ⊥) 0 b d → HoldsAt (IsFront queue a d) 6 a d None
@@ -82,9 +89,9 @@ module _ {M D : Type 0} (queue : QueuePart) where
       let next : HoldsAt (IsFront queue a d) 3 b d None = holds_wider (λ c. ⊥) (IsFront queue a d) 0 3 b d None (λ c none. absurd none) (omega arith) (record { ends = ap (λ (t : Attempt M D). t.state) is; does = does; known = ap (λ (t : Attempt M D). t.pass.view.known) is; began = ap (λ (t : Attempt M D). begun t) is }) in
       holds_then (IsFront queue a d) 3 3 a b d None (holds_wider (λ c. c ≡ queue.end) (IsFront queue a d) 3 3 a b None (λ c end. inl end) (omega arith) held) next
 
-  pub front_holds : (a b d : Attempt M D) (word : ℕ) (stop : Option Stop) → HoldsAt (λ c. c ≡ queue.end) 3 a b None → FoundEnd (sequence_of queue) a b word → 0 < length_in word → HoldsAt (λ c. (c ≡ queue.end) ⊎ (c ≡ front_of queue word)) 3 b d stop → HoldsAt (IsFront queue a d) 6 a d stop
-  front_holds a b d word stop held found some next =
-      let front : (c : ℕ) → (c ≡ queue.end) ⊎ (c ≡ front_of queue word) → IsFront queue a d c = λ c. elim [ inl end ↦ inl end | inr here ↦ inr (word, found_stays (sequence_of queue) a b d word found next.does.touches, some, here) ] in
+  pub front_holds : (a b d : Attempt M D) (word : ℕ) (stop : Option Stop) → HoldsAt (λ c. c ≡ queue.end) 3 a b None → FoundEnd (sequence_of queue) a b word → 0 < length_in word → 0 < queue.capacity → HoldsAt (λ c. (c ≡ queue.end) ⊎ (c ≡ front_of queue word)) 3 b d stop → HoldsAt (IsFront queue a d) 6 a d stop
+  front_holds a b d word stop held found some room next =
+      let front : (c : ℕ) → (c ≡ queue.end) ⊎ (c ≡ front_of queue word) → IsFront queue a d c = λ c. elim [ inl end ↦ inl end | inr here ↦ inr (word, found_stays (sequence_of queue) a b d word found next.does.touches, some, room, here) ] in
       holds_then (IsFront queue a d) 3 3 a b d stop (holds_wider (λ c. c ≡ queue.end) (IsFront queue a d) 3 3 a b None (λ c end. inl end) (omega arith) held) (holds_wider (λ c. (c ≡ queue.end) ⊎ (c ≡ front_of queue word)) (IsFront queue a d) 3 3 b d stop front (omega arith) next)
 
   -- of the cells the end alone came to be written or held

@@ -1,10 +1,11 @@
 -- The queue that cells stand for, and what each call makes of it.
-use Rattle.std.specs.Prelude.{◌≡◌, ◌≢◌, ℕ, ◌+◌, ◌-◌, ◌*◌, ◌%◌, ◌^◌, ◌<◌, ◌≤◌, ◌⊎◌, List, take, drop, length, slice_index, slice_get, Option}
+use Rattle.std.specs.Prelude.{◌≡◌, ◌≢◌, ℕ, ◌+◌, ◌-◌, ◌*◌, ◌%◌, ◌^◌, ◌<◌, ◌≤◌, ◌⊎◌, List, ◌∷◌, take, drop, length, slice_index, slice_get, Option}
 use Rattle.cell_table.specs.Cells.{has}
 use Rattle.cell_table.specs.Rule.{cells_of}
 use Rattle.attempt_lists.specs.Cells.{word_at}
 use Rattle.store_layout.specs.States.{head_in, length_in, round_from}
 use Rattle.tx_core.specs.Tx.{Attempt}
+use Rattle.tx_core.specs.Calls.{waiting}
 use Rattle.tx_core.specs.Sequences.{CellSequence, FoundEnd, Makes}
 use Rattle.tx_queue.specs.declared.part.QueuePart.{QueuePart}
 
@@ -56,7 +57,11 @@ Dequeues x before after = (x ≡ slice_get before 0) × (after ≡ drop 1 before
 module _ {M D : Type 0} (queue : QueuePart) (old new : Attempt M D) where
   -- a dequeue looks at the end, and where by its word the queue has items in its cells, at the first one
   abbrev pub IsFront : ℕ → Type 0
-  IsFront c = (c ≡ queue.end) ⊎ ((word : ℕ) × FoundEnd (sequence_of queue) old new word × (0 < length_in word) × (c ≡ front_of queue word))
+  IsFront c = (c ≡ queue.end) ⊎ ((word : ℕ) × FoundEnd (sequence_of queue) old new word × (0 < length_in word) × (0 < queue.capacity) × (c ≡ front_of queue word))
+
+  -- of its own additions all are left, or all but the first
+  abbrev pub LeavesRest : Type 0
+  LeavesRest = (waiting queue.part new ≡ waiting queue.part old) ⊎ ((value : ℕ) × (waiting queue.part old ≡ value ∷ waiting queue.part new))
 
   -- no other cell came to be written or held
   abbrev pub IsEndAlone : Type 0

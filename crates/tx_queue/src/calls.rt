@@ -8,7 +8,7 @@ ghost use Rattle.tx_core.specs.Additions.{more_spare};
 ghost use Rattle.tx_core.specs.Seen.{LooksOnly};
 ghost use Rattle.tx_core.specs.Calls.{MayCall, LooksAt, HoldsAt, KeepsOthers, stop_in, memory_in, stopped_from, known, waiting};
 ghost use Rattle.tx_core.specs.Sequences.{Appends, HasLength};
-ghost use Rattle.tx_queue.specs.Queue.{MakesOf, Dequeues, IsFront, IsEndAlone, front_of, end_after};
+ghost use Rattle.tx_queue.specs.Queue.{MakesOf, Dequeues, IsFront, IsEndAlone, LeavesRest, front_of, end_after};
 
 use crate::part::{QueuePart, head_and_length};
 use cell_table::{Meaning, pack_head_len};
@@ -75,6 +75,7 @@ impl QueuePart {
         ensures holds { HoldsAt (IsFront self.now tx.old tx.new) 6 tx.old tx.new (stop_in result) }
         ensures end_alone { IsEndAlone self.now tx.old tx.new }
         ensures others { KeepsOthers self.now.part tx.old.additions tx.new.additions }
+        ensures rest { LeavesRest self.now tx.old tx.new }
         ensures refused { OnErr result ((tx.new.writes ≡ tx.old.writes) × (tx.new.additions ≡ tx.old.additions)) }
         ensures same { tx.new ≡ record tx.old { pass = tx.new.pass; state = tx.new.state; observations = tx.new.observations; versions = tx.new.versions; writes = tx.new.writes; additions = tx.new.additions } }
     {
