@@ -141,6 +141,9 @@ module _ (apart : PartsAreApart) (s : Shape) (l : ℕ) (there : l < length s.log
           let own : then.logs l ≡ st.logs l = sequence_is (then.logs l) (st.logs l) (items_with new cells x.0 ∙ (x.1.0 ∙ sym (items_with old cells was))) (capacity_with new cells ∙ sym (capacity_with old cells)) in
           ap (λ (q : Sequence). let z : State = record st { logs = with_at st.logs l q } in z) own ∙ ap (λ (g : ℕ → Sequence). let z : State = record st { logs = g } in z) (with_at_own st.logs l);
     };
+    exceeds = λ old new n makes cells hold f.
+        let was = formed (after cells old.writes) f in
+        ap length (items_with old cells was) ∙ (makes cells hold was).1.0;
   }
 
   pub log_calls : (own : LogPart) → own ≡ part → SerialAppend → SerialPlaced → SerialRead → SerialLen → LogCalls s l own
