@@ -3,8 +3,10 @@ use Rattle.std.proofs.Common.{◌≡◌, ℕ, ◌<◌, ltb, refl, ap, sym, ◌�
 use Rattle.std.specs.Prelude.{Option, Some, None, Result, Ok}
 use Rattle.std.proofs.lemmas.Bool.{cond-true, lt-ltb}
 use Rattle.attempt_lists.specs.Cells.{Entries, word_at}
+use Rattle.attempt_lists.specs.Parts.{marked_of}
 use Rattle.serial_terms.specs.Renaming.{NamedDone}
 use Rattle.tx_store.specs.Calls.{Goes}
+use Rattle.tx_store.proofs.Telling.{waits_same}
 use Rattle.store_layout.specs.Shapes.{Shape, the_cell, first_of, size_of, IsCellOf}
 use Rattle.tx_core.specs.declared.stop.Stop.{Stop}
 use Rattle.tx_core.specs.Calls.{Stays}
@@ -53,9 +55,11 @@ module _ {M D : Type 0} (old new : Attempt M D) where
       written (Some y) e = stays_observed (same (own y e).1)
       written None e = unwritten e (word_at old.observations cell) refl
 
-pub goes_written : {M : Type 0} (old new : Attempt M NamedDone) (ws : Entries) → new ≡ record old { pass = new.pass; writes = ws } → Goes old new
-goes_written {M = M} old new ws is = record {
+pub goes_written : {M : Type 0} (s : Shape) (old new : Attempt M NamedDone) (ws : Entries) → new ≡ record old { pass = new.pass; writes = ws } → Goes s old new
+goes_written {M = M} s old new ws is = record {
   table = ap (λ (a : Attempt M NamedDone). a.table) is;
   committing = ap (λ (a : Attempt M NamedDone). a.committing) is;
   notes = ap (λ (a : Attempt M NamedDone). a.notes) is;
+  child = record { mark = ap (λ (a : Attempt M NamedDone). a.mark) is; marked = λ p. ap (λ (a : Attempt M NamedDone). marked_of a.additions p) is };
+  waits = waits_same s old new (ap (λ (a : Attempt M NamedDone). a.additions) is);
 }

@@ -17,7 +17,7 @@ returns-in-Ok-note_call g c =
     let old = c.args.tx.now in let made = c.write.new.self in
     on_call g.P.Keys.KeyTest.passes s (the_cell k) (λ d. d ≡ at) 0 0 (inside s k at c.requires.cell c.plain.ensures) (omega arith)
     (c.attempts_follow_law.ensures s) old made c.note_call.new.tx (CellPut k c.args.value) Nothing Nothing 0 c.requires.callable.open_now
-    (holds_looks (λ d. d ≡ at) 0 old made _ e.looks) (goes_written old made _ e.ok) tt
+    (holds_looks (λ d. d ≡ at) 0 old made _ e.looks) (goes_written s old made _ e.ok) tt
     (λ touches. (c.cell_calls_law.ensures s k c.requires.cell).put (progress old) (progress made) c.args.value (in_child old.state) touches
     (λ p. ap (λ a. waiting_of a.additions p) e.ok) (omega arith)
     (λ cells hold low.
@@ -30,4 +30,4 @@ returns-in-Err-note_call g c =
     let s = c.args.plan.now in let k = c.args.cell in let at = c.plain.result in let e = c.in-Ok.ensures in
     let old = c.args.tx.now in let made = c.write.new.self in
     on_refused g.P.Keys.KeyTest.passes s (the_cell k) (λ d. d ≡ at) 0 0 (inside s k at c.requires.cell c.plain.ensures) (omega arith)
-    old made c.note_call.new.tx (holds_looks (λ d. d ≡ at) 0 old made _ e.looks) (goes_written old made _ e.ok) c.in-Err-note_call.ensures.stopped
+    old made c.note_call.new.tx (holds_looks (λ d. d ≡ at) 0 old made _ e.looks) (goes_written s old made _ e.ok) c.in-Err-note_call.ensures.stopped

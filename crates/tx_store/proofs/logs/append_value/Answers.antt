@@ -5,8 +5,9 @@ use Rattle.store_layout.specs.Shapes.{the_log}
 use Rattle.store_parts.specs.Parts.{progress}
 use Rattle.tx_core.specs.Facts.{holds_looks}
 use Rattle.tx_core.specs.declared.stop.Stop.TheVariants.{Memory}
+use Rattle.tx_log.specs.declared.part.LogPart.{LogPart}
 use Rattle.tx_store.specs.Calls.{in_child}
-use Rattle.tx_store.proofs.LogCalls.{goes_added, goes_halted}
+use Rattle.tx_store.proofs.LogCalls.{waits_in_log, goes_added, goes_halted}
 use Rattle.tx_store.proofs.Telling.{on_call, on_refused, on_stopped}
 use Rattle.tx_store.proofs.logs.append_value.Goals as goal
 
@@ -16,7 +17,7 @@ returns-in-Ok-note_call g c =
     let old = c.args.tx.now in let made = c.append.new.tx in
     on_call g.P.Keys.KeyTest.passes s (the_log l) (λ d. ⊥) 0 0 (λ d own. absurd own) (omega arith)
     (c.attempts_follow_law.ensures s) old made c.note_call.new.tx (Append l c.args.value) Nothing Nothing 0 c.requires.callable.open_now
-    (holds_looks (λ d. ⊥) 0 old made _ e.looks) (goes_added old made _ _ e.ok) tt
+    (holds_looks (λ d. ⊥) 0 old made _ e.looks) (goes_added s old made _ _ e.ok e.added.marked (waits_in_log s old made l c.args.value part.part c.requires.log c.requires.value (ap (λ (q : LogPart). q.part) c.log_of-part.ensures.part) e.added)) tt
     (λ touches. (c.log_calls_law.ensures s l c.log_of-part.ensures.part c.requires.log c.log_of-part.ensures.small).append (progress old) (progress made) c.args.value (in_child old.state) touches
     (ap (λ a. a.writes) e.ok) e.added.others e.appended)
     refl c.in-Ok-note_call.ensures.ok
@@ -26,11 +27,11 @@ returns-in-Err-note_call g c =
     let s = c.args.plan.now in let l = c.args.log in let part = c.log_of-part.result in let e = c.in-Ok.ensures in
     let old = c.args.tx.now in let made = c.append.new.tx in
     on_refused g.P.Keys.KeyTest.passes s (the_log l) (λ d. ⊥) 0 0 (λ d own. absurd own) (omega arith)
-    old made c.note_call.new.tx (holds_looks (λ d. ⊥) 0 old made _ e.looks) (goes_added old made _ _ e.ok) c.in-Err-note_call.ensures.stopped
+    old made c.note_call.new.tx (holds_looks (λ d. ⊥) 0 old made _ e.looks) (goes_added s old made _ _ e.ok e.added.marked (waits_in_log s old made l c.args.value part.part c.requires.log c.requires.value (ap (λ (q : LogPart). q.part) c.log_of-part.ensures.part) e.added)) c.in-Err-note_call.ensures.stopped
 
 pub returns-in-Err : goal.returns-in-Err
 returns-in-Err g c =
     let s = c.args.plan.now in let l = c.args.log in let e = c.in-Err.ensures in
     let old = c.args.tx.now in let made = c.append.new.tx in
     on_stopped g.P.Keys.KeyTest.passes s (the_log l) (λ d. ⊥) 0 0 (λ d own. absurd own) (omega arith)
-    old made Memory (holds_looks (λ d. ⊥) 0 old made _ e.looks) (goes_halted old made _ e.stopped)
+    old made Memory (holds_looks (λ d. ⊥) 0 old made _ e.looks) (goes_halted s old made _ e.stopped)

@@ -17,9 +17,9 @@ returns-in-Ok-note_call g c =
     let is_end : part.end ≡ first_of s (the_log l) = ap (λ (q : LogPart). q.end) c.log_of-part.ensures.part in
     on_call g.P.Keys.KeyTest.passes s (the_log l) (λ d. d ≡ part.end) 3 3 (λ d own. end_inside s l c.requires.log d (own ∙ is_end)) (omega arith)
     (c.attempts_follow_law.ensures s) old made c.note_call.new.tx (LogLen l) (Value c.in-Ok.length) (Value c.in-Ok.length) 0 c.requires.callable.open_now
-    (holds_looks (λ d. d ≡ part.end) 3 old made _ e.looks) (goes_looked old made e.same) tt
+    (holds_looks (λ d. d ≡ part.end) 3 old made _ e.looks) (goes_looked s old made e.same) tt
     (λ touches. (c.log_calls_law.ensures s l c.log_of-part.ensures.part c.requires.log c.log_of-part.ensures.small).len (progress old) (progress made) c.in-Ok.length (in_child old.state) touches
-    (ap (λ a. a.writes) e.same) (waits_looked old made e.same) e.length)
+    (ap (λ a. a.writes) e.same) (waits_looked s old made e.same) e.length)
     refl c.in-Ok-note_call.ensures.ok
 
 pub returns-in-Err : goal.returns-in-Err
@@ -28,7 +28,7 @@ returns-in-Err g c =
     let old = c.args.tx.now in let made = c.len.new.tx in
     let is_end : part.end ≡ first_of s (the_log l) = ap (λ (q : LogPart). q.end) c.log_of-part.ensures.part in
     on_stopped g.P.Keys.KeyTest.passes s (the_log l) (λ d. d ≡ part.end) 3 3 (λ d own. end_inside s l c.requires.log d (own ∙ is_end)) (omega arith)
-    old made c.in-Err.stop (holds_looks (λ d. d ≡ part.end) 3 old made _ e.looks) (goes_looked old made e.same)
+    old made c.in-Err.stop (holds_looks (λ d. d ≡ part.end) 3 old made _ e.looks) (goes_looked s old made e.same)
 
 pub returns-in-Err-note_call : goal.returns-in-Err-note_call
 returns-in-Err-note_call g c =
@@ -36,4 +36,4 @@ returns-in-Err-note_call g c =
     let old = c.args.tx.now in let made = c.len.new.tx in
     let is_end : part.end ≡ first_of s (the_log l) = ap (λ (q : LogPart). q.end) c.log_of-part.ensures.part in
     on_refused g.P.Keys.KeyTest.passes s (the_log l) (λ d. d ≡ part.end) 3 3 (λ d own. end_inside s l c.requires.log d (own ∙ is_end)) (omega arith)
-    old made c.note_call.new.tx (holds_looks (λ d. d ≡ part.end) 3 old made _ e.looks) (goes_looked old made e.same) c.in-Err-note_call.ensures.stopped
+    old made c.note_call.new.tx (holds_looks (λ d. d ≡ part.end) 3 old made _ e.looks) (goes_looked s old made e.same) c.in-Err-note_call.ensures.stopped
