@@ -17,3 +17,4 @@ pub mod Telling
 pub mod Wrong
 pub mod Ending
 pub mod Keys
+pub mod Small

@@ -63,6 +63,12 @@ abbrev pub PlansAreWork : Type 0
 PlansAreWork = (rules : List Rule) (bytes : List ℕ) (capture : Capture) (window : ℕ) (planned : Plan)
     → IsClassifiable bytes capture → IsPlan bytes capture window planned → IsSoundWork (work_of_plan rules bytes planned)
 
+-- it has at most 262,144 tasks, and no more groups
+abbrev pub PlansAreSmall : Type 0
+PlansAreSmall = (bytes : List ℕ) (capture : Capture) (window : ℕ) (planned : Plan)
+    → IsClassifiable bytes capture → IsPlan bytes capture window planned
+    → (length planned.tasks.items ≤ 262144) × (length planned.groups.items ≤ 262144)
+
 -- the task of a whole datagram is asked for by its number, and has the values of the findings in the datagram
 abbrev pub WholeIsDatagram : Type 0
 WholeIsDatagram = (rules : List Rule) (bytes : List ℕ) (tasks : List Task) (groups : List Group)

@@ -1,6 +1,6 @@
 //! Laws of the work that a capture gives. Each function does nothing; what it ensures is the law.
 
-ghost use Rattle.run_stages.specs.FromCapture.{TasksHaveFacts, PlansAreWork, WholeIsDatagram, GroupIsDatagram, DatagramsAreListed, ValuesAreFindings, FinishedFindsCapture, LogIsPartOfFindings, IncompleteAreCounted, FinishedCountsIncomplete, FullLogMeansMore, FindingsFitLog, KeysAreIncomplete};
+ghost use Rattle.run_stages.specs.FromCapture.{TasksHaveFacts, PlansAreWork, PlansAreSmall, WholeIsDatagram, GroupIsDatagram, DatagramsAreListed, ValuesAreFindings, FinishedFindsCapture, LogIsPartOfFindings, IncompleteAreCounted, FinishedCountsIncomplete, FullLogMeansMore, FindingsFitLog, KeysAreIncomplete};
 
 use crate::laws::{finished_fits_log_law, full_is_the_log_law, log_is_part_of_all_law};
 use capture_terms::{group_law, member_law, task_law};
@@ -16,6 +16,11 @@ pub fn plans_are_work_law()
 {
     group_law();
 }
+
+/// A capture's plan has at most 262,144 tasks, and at most so many groups.
+pub fn plans_are_small_law()
+    ensures { PlansAreSmall }
+{}
 
 /// A whole datagram's task is asked for by its number, and has the values of the findings in it.
 pub fn whole_is_datagram_law()
