@@ -1,0 +1,17 @@
+// What a journal's text tells. Each function does nothing; what it ensures is the law.
+ghost use Rattle.journal_writer.specs.Laws.{LegalJournals, TextsTell};
+
+use journal_terms::one_text_one_journal_law;
+
+/// A text of version 1 tells the sizes and the records, one of version 2 the sights, too; and no text is
+/// of both versions.
+pub fn texts_tell_law()
+    ensures { TextsTell }
+{
+    one_text_one_journal_law();
+}
+
+/// The journal of a legal run is one that an audit says yes of, in both versions.
+pub fn legal_journals_law()
+    ensures { LegalJournals }
+{}
