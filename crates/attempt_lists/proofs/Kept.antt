@@ -1,11 +1,13 @@
 -- What the first entries of a list keep of the whole, and how promised places add up.
-use Rattle.std.proofs.Common.{◌≡◌, ℕ, ◌+◌, ◌<◌, ◌≤◌, Bool, true, false, [], ◌∷◌, ◌++◌, length, take, None, refl, arith}
-use Rattle.std.proofs.lemmas.Bool.Decides.{nat_tests}
+use Rattle.std.proofs.Common.{◌≡◌, ℕ, ◌+◌, ◌<◌, ◌≤◌, true, false, List, [], ◌∷◌, ◌++◌, length, take, None, sym, ◌∙◌, le_trans, arith}
 use Rattle.std.proofs.lemmas.Grind.{common_steps}
 use Rattle.attempt_lists.specs.Cells.{Entries, word_at, cell_at, NoCellTwice}
-use Rattle.attempt_lists.specs.Index.{Passes, AllPass, Indexes, owed}
+use Rattle.attempt_lists.specs.Buckets.{AreChains}
+use Rattle.attempt_lists.specs.Index.{Passes, AllPass, Indexes, Holds, HasRoom}
+use Rattle.attempt_lists.specs.declared.chains.Chains.{Chains}
 use Rattle.attempt_lists.specs.declared.cell_index.CellIndex.{CellIndex}
 use Rattle.attempt_lists.specs.Words.{none_from_word}
+use Rattle.attempt_lists.proofs.Buckets.{chains_same}
 
 -- the first n entries are entries of the list
 taken : (es : Entries) (n i : ℕ) → i < length (take n es) → (i < length es) × (cell_at (take n es) i ≡ cell_at es i)
@@ -23,14 +25,16 @@ module _ (es : Entries) (n : ℕ) where
       let at = taken es n i in_range in
       rw at.1 (pass i at.0)
 
-  pub indexes_taken : (index : CellIndex) → Indexes index es → Indexes index (take n es)
-  indexes_taken index indexes = record {
-    few = λ inactive unordered. let few = indexes.few inactive unordered in grind (arith, common_steps, few);
+  -- an index of the first entries, by their order or by chains that lost the others
+  pub indexes_taken : (old new : CellIndex) → Indexes old es → new.active ≡ old.active → new.ordered ≡ old.ordered
+      → (old.active ≡ true → AreChains new.chains.heads.items new.chains.links.items es (length (take n es))) → Indexes new (take n es)
+  indexes_taken old new indexes same_active same_ordered chained = record {
+    few = λ inactive unordered. let few = indexes.few (sym same_active ∙ inactive) (sym same_ordered ∙ unordered) in grind (arith, common_steps, few);
     ascending = λ ordered i j lt in_range.
         let last = taken es n j in_range in
         let first = taken es n i (omega arith) in
-        rw (first.1, last.1) (indexes.ascending ordered i j lt last.0);
-    placed = λ active i in_range. let at = taken es n i in_range in rw at.1 (indexes.placed active i at.0);
+        rw (first.1, last.1) (indexes.ascending (sym same_ordered ∙ ordered) i j lt last.0);
+    chained = λ active. chains_same _ _ es (take n es) _ (λ i lt. (taken es n i lt).1) (chained (sym same_active ∙ active));
   }
 
 -- the list with one more entry at its end
@@ -41,16 +45,27 @@ module _ (es : Entries) (cell word : ℕ) where
   pub pass_pushed : (filter more : ℕ) → AllPass filter es → Passes more cell → ((q : ℕ) → Passes filter q → Passes more q) → AllPass more (es ++ (cell, word) ∷ [])
   pass_pushed filter more pass added kept i in_range = grind (arith, common_steps, pass i, kept (cell_at es i), added)
 
--- fewer entries and fewer reserved places owe no more
-pub owed_rises : (active : Bool) (a b r s : ℕ) → a ≤ b → r ≤ s → owed active a r ≤ owed active b s
-owed_rises true a b r s le more = more
-owed_rises false a b r s le more = grind (arith, nat_tests)
+  -- its chains, where those of the list take one entry more
+  pub chains_grown : (heads links more_heads more_links : List ℕ)
+      → ((entries : Entries) (n : ℕ) → cell_at entries n ≡ cell → AreChains heads links entries n → AreChains more_heads more_links entries (n + 1))
+      → AreChains heads links es (length es) → AreChains more_heads more_links (es ++ (cell, word) ∷ []) (length (es ++ (cell, word) ∷ []))
+  chains_grown heads links more_heads more_links grows are =
+      let as_long : length (es ++ (cell, word) ∷ []) ≡ length es + 1 = grind (arith, common_steps) in
+      rw as_long (grows (es ++ (cell, word) ∷ []) (length es) (grind (arith, common_steps)) (chains_same heads links es _ (length es) (λ i lt. grind (arith, common_steps, lt)) are))
 
--- a list that is put in order owes the index room for all its cells: each has a place there until then
-pub owed_ordered : (active : Bool) (len reserved count before after : ℕ) → owed active len reserved ≤ before → (active ≡ true → len ≤ count) → before ≤ after → (active ≡ true → count + before ≤ after) → owed false len reserved ≤ after
-owed_ordered true len reserved count before after room fits kept freed =
-    let within = fits refl in
-    let left = freed refl in
-    let all : len + reserved ≤ after = omega (arith, room, within, left) in
-    grind (arith, nat_tests, all)
-owed_ordered false len reserved count before after room fits kept freed = omega (arith, room, kept)
+-- room for more entries is room for fewer
+holds_fewer : (chains : Chains) (m n : ℕ) → m ≤ n → Holds chains n → Holds chains m
+holds_fewer chains m n le holds = record { links = le_trans le holds.links; heads = holds.heads }
+
+pub room_for_fewer : (index : CellIndex) (a b r s : ℕ) → a + r ≤ b + s → HasRoom index b s → HasRoom index a r
+room_for_fewer index a b r s le room = record {
+  chained = λ active. holds_fewer index.chains _ _ le (room.chained active);
+  many = λ above. holds_fewer index.chains _ _ le (room.many (omega (arith, above, le)));
+}
+
+-- a list that is put in order owes its chains no more room
+pub room_ordered : (old new : CellIndex) (a b r s : ℕ) → new.chains ≡ old.chains → new.active ≡ false → a + r ≤ b + s → HasRoom old b s → HasRoom new a r
+room_ordered old new a b r s same inactive le room = record {
+  chained = λ active. absurd (grind (arith, active, inactive));
+  many = λ above. rw same (holds_fewer old.chains _ _ le (room.many (omega (arith, above, le))));
+}

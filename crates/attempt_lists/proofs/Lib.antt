@@ -1,3 +1,4 @@
+pub mod Buckets
 pub mod Index
 pub mod Kept
 pub mod Places

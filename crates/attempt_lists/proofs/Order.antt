@@ -1,6 +1,6 @@
 -- What a list is in ascending order of cells, and what a sort makes of it.
-use Rattle.std.proofs.Common.{◌≡◌, ◌≢◌, ℕ, suc, ◌+◌, ◌-◌, ◌<◌, ◌≤◌, eqb, [], ◌∷◌, ◌++◌, length, get_or, set, if◌then◌else◌, is_some, IsSome, MatchOption, Some, None, Option, refl, sym, ap, ◌∙◌, inl, inr, arith}
-use Rattle.std.specs.List.{All, IsDistinct}
+use Rattle.std.proofs.Common.{◌≡◌, ◌≢◌, ℕ, suc, ◌+◌, ◌-◌, ◌<◌, ◌≤◌, eqb, [], ◌∷◌, ◌++◌, length, get_or, set, if◌then◌else◌, is_some, MatchOption, Some, None, Option, refl, sym, ap, ◌∙◌, inl, inr, arith}
+use Rattle.std.specs.List.{IsDistinct}
 use Rattle.std.specs.List.Sorted.{IsPermutation, IsNonDecreasingBy}
 use Rattle.std.specs.Map.{keys_of}
 use Rattle.std.specs.Cmp.{nat_eq_equiv}
@@ -8,16 +8,15 @@ use Rattle.std.proofs.lemmas.Bool.{cases_lt, cases_eq, eqb-true, eqb-false, ne_e
 use Rattle.std.proofs.lemmas.Bool.Decides.{nat_tests}
 use Rattle.std.proofs.lemmas.Grind.{common_steps}
 use Rattle.std.proofs.lemmas.List.{get_or-map}
-use Rattle.std.specs.HashMap.{HashMap, get, hash_map_len}
-use Rattle.std.proofs.lemmas.List.Elements.{All-get_or, All-from_get_or, All-contains}
+use Rattle.std.proofs.lemmas.List.Elements.{All-get_or, All-from_get_or}
 use Rattle.std.proofs.lemmas.List.Sorted.{IsPermutation-map, IsPermutation-sym, All-permutation, Contains-permutation}
 use Rattle.std.proofs.lemmas.Map.Keys.{IsDistinct-from_apart, apart_from_distinct, IsDistinct-IsPermutation}
 use Rattle.std.proofs.lemmas.Map.Entries.{length-keys_of}
-use Rattle.std.proofs.lemmas.Map.Steps.{length-le_from_keys}
-use Rattle.std.proofs.lemmas.Map.Views.{Contains-from_any, Contains-from_lookup, lookup-from_Contains}
+use Rattle.std.proofs.lemmas.Map.Views.{Contains-from_lookup, lookup-from_Contains}
 use Rattle.attempt_lists.specs.Cells.{Entries, word_at, word_of, cell_at, put, laid_over, in_order, NoCellTwice, IsAscending}
-use Rattle.attempt_lists.specs.Index.{Passes, AllPass, IsIndex, Indexes}
+use Rattle.attempt_lists.specs.Index.{Passes, AllPass, Indexes}
 use Rattle.attempt_lists.specs.declared.cell_index.CellIndex.{CellIndex}
+use Rattle.attempt_lists.proofs.Buckets.{chains_same}
 use Rattle.attempt_lists.specs.Laid.{each_cons, absent_below, above_head, ascending_tail, once_tail, once_from_ascending, word_at-put, length-put, laid_over_put, ascending_put, word_at-laid_over, laid_over_set, ascending_laid_over}
 
 -- ---- lists of the same words
@@ -106,15 +105,6 @@ once_from_distinct es distinct i j lt within same =
     let last : get_or (keys_of es) j 0 ≡ cell_at es j = get_or-map (λ (e : ℕ × ℕ). e.0) es j (0, 0) 0 within in
     eqb-false (cell_at es i) (cell_at es j) (rw (← first, ← last) (apart_from_distinct eqb (keys_of es) i j 0 distinct lt in_range)) same
 
--- an index has at least as many places as the list has cells
-pub index_fits : {S : Type 0} (places : HashMap ℕ ℕ S) (es : Entries) → NoCellTwice es → IsIndex (get eqb places) es → length es ≤ hash_map_len places
-index_fits places es once index =
-    let found : All (λ q. IsSome (get eqb places q)) (keys_of es) = All-from_get_or (λ q. IsSome (get eqb places q)) (keys_of es) 0 (λ i lt.
-    let within : i < length es = rw (← length-keys_of es) lt in
-    let key : get_or (keys_of es) i 0 ≡ cell_at es i = get_or-map (λ (e : ℕ × ℕ). e.0) es i (0, 0) 0 within in
-    rw (key, index i within) refl) in
-    rw (← length-keys_of es) (length-le_from_keys nat_eq_equiv (keys_of es) places.entries (distinct_from_once es once) (λ q any. All-contains (λ q. IsSome (get eqb places q)) (keys_of es) q found (Contains-from_any (λ x y. eqb-true x y) q (keys_of es) any)))
-
 module _ (xs ys : Entries) (moved : IsPermutation xs ys) (once : NoCellTwice xs) where
   distinct_moved : IsDistinct eqb (keys_of ys)
   distinct_moved = IsDistinct-IsPermutation eqb nat_eq_equiv.symm (keys_of xs) (keys_of ys) (IsPermutation-map (λ (e : ℕ × ℕ). e.0) xs ys moved) (distinct_from_once xs once)
@@ -161,6 +151,9 @@ module _ (es : Entries) (at word : ℕ) (in_range : at < length es) where
   cell_set : (i : ℕ) → cell_at (set es at (cell_at es at, word)) i ≡ cell_at es i
   cell_set i = grind (arith, common_steps, in_range)
 
+  as_long : length (set es at (cell_at es at, word)) ≡ length es
+  as_long = grind (arith, common_steps)
+
   pub once_set : NoCellTwice es → NoCellTwice (set es at (cell_at es at, word))
   once_set once i j lt within same = once i j lt (grind (arith, common_steps, within)) (sym (cell_set i) ∙ same ∙ cell_set j)
 
@@ -174,7 +167,7 @@ module _ (es : Entries) (at word : ℕ) (in_range : at < length es) where
   indexes_set index indexes = record {
     few = λ inactive unordered. let few = indexes.few inactive unordered in grind (arith, common_steps, few);
     ascending = λ ordered. ascending_set (indexes.ascending ordered);
-    placed = λ active i within. rw (cell_set i) (indexes.placed active i (grind (arith, common_steps, within)));
+    chained = λ active. rw as_long (chains_same _ _ es _ (length es) (λ i lt. cell_set i) (indexes.chained active));
   }
 
 -- ---- puts to a list that is in any order

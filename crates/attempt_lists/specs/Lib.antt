@@ -1,6 +1,7 @@
 pub mod Cells
 pub mod Words
 pub mod Laid
+pub mod Buckets
 pub mod Index
 pub mod Levels
 pub mod Observed

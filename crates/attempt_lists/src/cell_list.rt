@@ -22,16 +22,15 @@ pub struct CellList {
 impl Model for CellList {
     ghost use Rattle.std.specs.Prelude.{◌+◌, ◌≤◌};
     ghost use Rattle.std.specs.Vec.{vec_len, vec_capacity};
-    ghost use Rattle.std.specs.HashMap.{spare};
     ghost use Rattle.attempt_lists.specs.Cells.{Listed, NoCellTwice};
-    ghost use Rattle.attempt_lists.specs.Index.{AllPass, Indexes, owed};
+    ghost use Rattle.attempt_lists.specs.Index.{AllPass, Indexes, HasRoom};
 
     ghost Value = { Listed };
 
     ghost view = { λ a. record { entries = a.entries.items; reserved = a.reserved } };
 
     // There is room for at least as many more cells as are promised.
-    ghost invariant = { λ a. NoCellTwice a.entries.items × AllPass a.filter a.entries.items × Indexes a.index a.entries.items × (vec_len a.entries + a.room ≤ vec_capacity a.entries) × (owed a.index.active (vec_len a.entries) a.room ≤ spare a.index.places) × (a.reserved ≤ a.room) };
+    ghost invariant = { λ a. NoCellTwice a.entries.items × AllPass a.filter a.entries.items × Indexes a.index a.entries.items × (vec_len a.entries + a.room ≤ vec_capacity a.entries) × HasRoom a.index (vec_len a.entries) a.room × (a.reserved ≤ a.room) };
 }
 
 impl CellList {
@@ -115,7 +114,7 @@ impl CellList {
         // A list that grows doubles at least.
         let room = reserved.max(self.entries.len());
         self.entries.reserve(room)?;
-        self.index.reserve(self.entries.len(), room)?;
+        self.index.reserve(&self.entries, room)?;
         self.room = room;
         self.reserved = reserved;
         Ok(())
@@ -172,6 +171,8 @@ impl CellList {
         ensures gone { IfSome result (λ e. word_at self.new.entries e.0 ≡ None) }
         ensures reserved { self.new.reserved ≡ self.old.reserved }
     {
+        let len = self.entries.len();
+        self.index.truncate(&self.entries, len.saturating_sub(1));
         let last = self.entries.pop()?;
         Some(last)
     }
@@ -181,6 +182,7 @@ impl CellList {
         ensures entries { self.new.entries ≡ take len self.old.entries }
         ensures reserved { self.new.reserved ≡ self.old.reserved }
     {
+        self.index.truncate(&self.entries, len);
         self.entries.truncate(len);
     }
 

@@ -8,6 +8,7 @@ mod additions;
 mod cell_index;
 mod cell_list;
 mod cell_map;
+mod chains;
 mod filter;
 mod kept_lists;
 mod laws;

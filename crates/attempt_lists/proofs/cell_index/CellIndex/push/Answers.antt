@@ -1,19 +1,20 @@
-use Rattle.std.proofs.Common.{eqb, arith}
-use Rattle.std.specs.HashMap.{get}
-use Rattle.attempt_lists.proofs.Index.{pushed}
+use Rattle.std.proofs.Common.{arith}
+use Rattle.attempt_lists.proofs.Kept.{chains_grown}
 use Rattle.attempt_lists.proofs.cell_index.CellIndex.push.Goals as goal
 
+-- the chains take one entry more
 pub returns-then-self-clause-indexes : goal.returns-then-self-clause-indexes
 returns-then-self-clause-indexes c = λ word. record {
-  few = λ inactive _. grind (arith, c.add.ensures.active, c.if-self.true, inactive);
-  ascending = λ ordered. grind (arith, c.add.ensures.ordered, ordered);
-  placed = λ active. pushed (get eqb c.args.self.now.places) _ (c.requires.indexes.placed c.if-self.true) _ (get eqb c.add.new.self.places) word c.requires.absent c.add.ensures.places;
+  few = λ inactive unordered. absurd (grind (arith, c.if-self.true, inactive));
+  ascending = λ ordered. absurd (grind (arith, ordered));
+  chained = λ active. chains_grown _ _ word _ _ _ _ c.push.ensures.chains (c.requires.indexes.chained c.if-self.true);
 }
 
+-- the entries come into chains, and then this one
 pub returns-then-entries-ge-SCANNED-clause-indexes :
     goal.returns-then-entries-ge-SCANNED-clause-indexes
 returns-then-entries-ge-SCANNED-clause-indexes c = λ word. record {
-  few = λ inactive _. grind (arith, c.add-then-entries-ge-SCANNED.ensures.active, c.activate.ensures.active, inactive);
-  ascending = λ ordered. grind (arith, c.add-then-entries-ge-SCANNED.ensures.ordered, c.activate.ensures.ordered, ordered);
-  placed = λ active. pushed (get eqb c.activate.new.self.places) _ c.activate.ensures.index _ (get eqb c.add-then-entries-ge-SCANNED.new.self.places) word c.requires.absent c.add-then-entries-ge-SCANNED.ensures.places;
+  few = λ inactive unordered. absurd (grind (arith, inactive));
+  ascending = λ ordered. absurd (grind (arith, ordered));
+  chained = λ active. chains_grown _ _ word _ _ _ _ c.push-then-entries-ge-SCANNED.ensures.chains c.fill.ensures.chains;
 }

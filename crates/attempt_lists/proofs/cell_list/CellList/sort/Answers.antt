@@ -2,8 +2,8 @@ use Rattle.std.proofs.Common.{ap, rules, ◌∙◌, arith}
 use Rattle.std.specs.List.Sorted.{IsNonDecreasingBy}
 use Rattle.std.proofs.lemmas.List.Sorted.{IsNonDecreasingBy-from_sort_by_key}
 use Rattle.attempt_lists.specs.Cells.{Listed, in_order}
-use Rattle.attempt_lists.proofs.Kept.{owed_ordered}
-use Rattle.attempt_lists.proofs.Order.{once_moved, pass_moved, ascending_moved, sorted_is, index_fits}
+use Rattle.attempt_lists.proofs.Kept.{room_ordered}
+use Rattle.attempt_lists.proofs.Order.{once_moved, pass_moved, ascending_moved, sorted_is}
 use Rattle.attempt_lists.proofs.cell_list.CellList.sort.Goals as goal
 
 -- what moved is the same, and now ascends
@@ -12,16 +12,16 @@ invariant_of-self c =
     let rises : IsNonDecreasingBy (λ e. e.0) c.sort_unstable_by_key.new.self.items = IsNonDecreasingBy-from_sort_by_key (λ e. e.0) _ c.sort_unstable_by_key.ensures.sorted (λ a r q k. search rules) in
     let moved = c.sort_unstable_by_key.ensures.permutation in
     let once = c.self.invariant.0 in
-    let room = owed_ordered c.self.inside.index.active _ c.self.inside.room _ _ _ c.self.invariant.4 (λ active. rw c.self.inside.entries.ok.0 (index_fits c.self.inside.index.places _ once (c.self.invariant.2.placed active))) c.order.ensures.kept c.order.ensures.freed in (
+    let room = room_ordered c.self.inside.index c.order.new.self _ _ _ _ c.order.ensures.chains c.order.ensures.active (omega (arith, c.sort_unstable_by_key.ensures.len)) c.self.invariant.4 in (
       once_moved _ _ moved once,
       pass_moved _ _ moved once _ c.self.invariant.1,
       record {
         few = λ inactive unordered. grind (arith, c.order.ensures.ordered, unordered);
         ascending = λ ordered. ascending_moved _ _ moved once rises;
-        placed = λ active. grind (arith, c.order.ensures.active, active);
+        chained = λ active. absurd (grind (arith, c.order.ensures.active, active));
       },
       omega (arith, c.sort_unstable_by_key.ensures.len, c.sort_unstable_by_key.ensures.capacity, c.self.invariant.3),
-      rw (c.order.ensures.active, c.sort_unstable_by_key.ensures.len) room,
+      room,
       c.self.invariant.5,
     )
 
