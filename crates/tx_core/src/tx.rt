@@ -4,7 +4,7 @@ ghost use Rattle.std.specs.Option.{option_or};
 ghost use Rattle.attempt_lists.specs.Cells.{put};
 ghost use Rattle.attempt_lists.specs.Levels.{merged};
 
-use crate::check::check;
+use crate::check::check_drawn;
 use crate::child::Mark;
 use crate::gives::{give_back_all, reserve_lock};
 use crate::spare::Spare;
@@ -50,7 +50,7 @@ impl<'a, M: Meaning> Model for Tx<'a, M> {
 impl<'a, M: Meaning> Tx<'a, M> {
     ghost use Rattle.cell_table.specs.Cells.{has, after, AllHold};
     ghost use Rattle.cell_table.specs.Rule.{callers_of};
-    ghost use Rattle.cell_table.specs.declared.view.Event.TheVariants.{ClockLoaded};
+    ghost use Rattle.cell_table.specs.declared.view.Event.TheVariants.{ClockLoaded, VersionDrawn};
     ghost use Rattle.cell_table.specs.declared.view.Stage.TheVariants.{Open, Drawn};
     ghost use Rattle.cell_table.specs.Steps.{IsIdle, Grows, clocked, Observes};
     ghost use Rattle.cell_table.specs.Pass.{IsPassOf, IsSole, acting, trail_of, note, with_view};
@@ -279,7 +279,8 @@ impl<'a, M: Meaning> Tx<'a, M> {
 
     /// Draws the version of the commit, and validates every observation in the order in which they were made.
     ///
-    /// Ok gives the version that was drawn: all that was observed stands just before it. After a stop the attempt is
+    /// Ok gives the version that was drawn: all that was observed stands just before it. Where that version directly follows
+    /// the attempt's, nothing observed can have changed, and the draw is the only step. After a stop the attempt is
     /// stopped. One draw is used up in both cases.
     pub fn draw_and_check(&mut self) -> Result<u64, Stop>
         requires running { self.old.state ≡ Running }
@@ -292,6 +293,7 @@ impl<'a, M: Meaning> Tx<'a, M> {
         ensures cause { IfErr result (CausedIn self.old self.new) }
         ensures first { IfErr result (IsFirstChanged self.new.pass.view self.old.observations self.old.versions) }
         ensures sole { IsSole self.old.pass → IsOk result }
+        ensures direct { IfOk result (λ d. d ≡ self.old.version + 1 → trail_of self.new.pass ≡ trail_of self.old.pass ++ VersionDrawn d ∷ []) }
         ensures draws { self.new.pass.view.draws ≡ self.old.pass.view.draws - 1 }
         ensures held { self.new.pass.view.held ≡ self.old.pass.view.held }
         ensures pass { self.new.pass ≡ with_view self.old.pass self.new.pass.view }
@@ -301,7 +303,14 @@ impl<'a, M: Meaning> Tx<'a, M> {
         self.committing = true;
         let table = self.table;
         let drawn = table.draw(&mut self.pass);
-        match check(table, &mut self.pass, &self.reads, &self.held, self.version) {
+        match check_drawn(
+            table,
+            &mut self.pass,
+            &self.reads,
+            &self.held,
+            self.version,
+            drawn,
+        ) {
             Ok(()) => Ok(drawn),
             Err(stop) => {
                 self.state = self.state.stopped();

@@ -18,8 +18,8 @@ use Rattle.tx_core.proofs.tx.Tx.draw_and_check.Goals.{In-Ok}
 use Rattle.tx_core.proofs.tx.Tx.draw_and_check.Goals as goal
 
 -- the draw keeps what was observed
-pub check-requires-clause-observed : goal.check-requires-clause-observed
-check-requires-clause-observed g c =
+pub check_drawn-requires-clause-observed : goal.check_drawn-requires-clause-observed
+check_drawn-requires-clause-observed g c =
     let some : c.self.inside.pass.view.held ≢ [] = λ none. c.requires.holds (ap (λ (a : Attempt _ _). a.pass.view.held) (sym c.self.view_is) ∙ none) in
     let drew = attempt_draws _ _ c.self.inside.pass c.draw-drawn.new.pass _ _ _ c.draw-drawn.result (attempt_commits _ _ _ _ _ _ _ c.self.invariant.0) c.draw-drawn.ensures.view c.draw-drawn.ensures.of c.draw-drawn.ensures.later.1 some in
     drew.observed
@@ -30,8 +30,8 @@ invariant_of-self g c =
     let none = unmarked _ _ c.self.inside.mark _ _ _ _ _ (ap is_child running) c.self.invariant.2 in
     let some : c.self.inside.pass.view.held ≢ [] = λ none. c.requires.holds (ap (λ (a : Attempt _ _). a.pass.view.held) (sym c.self.view_is) ∙ none) in
     let drew = attempt_draws _ _ c.self.inside.pass c.draw-drawn.new.pass _ _ _ c.draw-drawn.result (attempt_commits _ _ _ _ _ _ _ c.self.invariant.0) c.draw-drawn.ensures.view c.draw-drawn.ensures.of c.draw-drawn.ensures.later.1 some in (
-      attempt_looks _ _ c.draw-drawn.new.pass c.check.new.pass _ _ _ _ c.in-Ok.ensures.looks c.in-Ok.ensures.of drew,
-      provided_places c.self.inside.pass c.check.new.pass _ _ _ _ _ _ (ap (λ (s : PassState _ _). s.places) c.in-Ok.ensures.looks.0 ∙ ap (λ (s : PassState _ _). s.places) c.draw-drawn.ensures.view) (provided_commits _ _ _ _ _ _ _ c.self.invariant.1),
+      attempt_looks _ _ c.draw-drawn.new.pass c.check_drawn.new.pass _ _ _ _ c.in-Ok.ensures.looks c.in-Ok.ensures.of drew,
+      provided_places c.self.inside.pass c.check_drawn.new.pass _ _ _ _ _ _ (ap (λ (s : PassState _ _). s.places) c.in-Ok.ensures.looks.0 ∙ ap (λ (s : PassState _ _). s.places) c.draw-drawn.ensures.view) (provided_commits _ _ _ _ _ _ _ c.self.invariant.1),
       nested_free _ _ _ _ _ _ _ _ _ _ _ _ _ _ refl none (λ e. e) c.self.invariant.2,
     )
 
@@ -41,32 +41,22 @@ invariant_of-self-in-Err g c =
     let none = unmarked _ _ c.self.inside.mark _ _ _ _ _ (ap is_child running) c.self.invariant.2 in
     let some : c.self.inside.pass.view.held ≢ [] = λ none. c.requires.holds (ap (λ (a : Attempt _ _). a.pass.view.held) (sym c.self.view_is) ∙ none) in
     let drew = attempt_draws _ _ c.self.inside.pass c.draw-drawn.new.pass _ _ _ c.draw-drawn.result (attempt_commits _ _ _ _ _ _ _ c.self.invariant.0) c.draw-drawn.ensures.view c.draw-drawn.ensures.of c.draw-drawn.ensures.later.1 some in (
-      attempt_looks _ _ c.draw-drawn.new.pass c.check.new.pass _ _ _ _ c.in-Err.ensures.looks c.in-Err.ensures.of drew,
-      provided_places c.self.inside.pass c.check.new.pass _ _ _ _ _ _ (ap (λ (s : PassState _ _). s.places) c.in-Err.ensures.looks.0 ∙ ap (λ (s : PassState _ _). s.places) c.draw-drawn.ensures.view) (provided_commits _ _ _ _ _ _ _ c.self.invariant.1),
+      attempt_looks _ _ c.draw-drawn.new.pass c.check_drawn.new.pass _ _ _ _ c.in-Err.ensures.looks c.in-Err.ensures.of drew,
+      provided_places c.self.inside.pass c.check_drawn.new.pass _ _ _ _ _ _ (ap (λ (s : PassState _ _). s.places) c.in-Err.ensures.looks.0 ∙ ap (λ (s : PassState _ _). s.places) c.draw-drawn.ensures.view) (provided_commits _ _ _ _ _ _ _ c.self.invariant.1),
       nested_free _ _ _ _ _ _ _ _ _ _ _ _ _ _ (ap is_child c.stopped-self-inside.ensures ∙ child_stopped _) none (λ e. e) c.self.invariant.2,
     )
 
 -- a held cell stands just before the draw by the draw itself, and the others by the validation
 -- each observation stands just before the version that was drawn
-standing : (g : _) (c : In-Ok g) → (i : ℕ) → i < length c.self.inside.reads.observations → Observes c.check.new.pass.view (cell_at c.self.inside.reads.observations i) (word_of c.self.inside.reads.observations i) (c.draw-drawn.result - 1)
+standing : (g : _) (c : In-Ok g) → (i : ℕ) → i < length c.self.inside.reads.observations → Observes c.check_drawn.new.pass.view (cell_at c.self.inside.reads.observations i) (word_of c.self.inside.reads.observations i) (c.draw-drawn.result - 1)
 standing g c i lt =
     let seen = c.self.invariant.0.observed i lt in
     let view = ap (λ (s : PassState _ _). s.view) c.draw-drawn.ensures.view in
     let held : c.draw-drawn.new.pass.view.held ≡ c.self.inside.pass.view.held = ap (λ (v : View _ _). v.held) view in
-    let known : c.draw-drawn.new.pass.view.known ≡ c.draw-drawn.result = ap (λ (v : View _ _). v.known) view in
     let cell = cell_at c.self.inside.reads.observations i in
-    let later = c.draw-drawn.ensures.later.1 in
-    let grown : Grows c.self.inside.pass.view c.draw-drawn.new.pass.view = rw view (drawn_grows c.self.inside.pass.view c.draw-drawn.result later) in
     elim (cases_Bool (has cell (cells_of c.self.inside.pass.view.held))) [
       | inl mine ↦ observes_grows _ _ _ _ _ c.in-Ok.ensures.looks.1.grows (c.draw-drawn.ensures.held_stand cell (slice_index c.self.inside.reads.versions i) (word_of c.self.inside.reads.observations i) (c.self.invariant.0.pinned i lt mine) seen.reads)
-      | inr free ↦ (
-        slice_index c.self.inside.reads.versions i,
-        c.draw-drawn.new.pass.view.known,
-        c.in-Ok.ensures.looks.1.grows.values _ (grown.values _ seen.reads),
-        c.in-Ok.ensures.ok i lt (rw held free),
-        omega (arith, (stands_unheld _ _ _ _ _ seen free).low, c.self.invariant.0.begun.1),
-        omega (arith, known),
-      )
+      | inr free ↦ c.in-Ok.ensures.ok i lt (rw held free)
     ]
 
 pub returns-in-Ok-clause-drawn : goal.returns-in-Ok-clause-drawn
