@@ -8,10 +8,10 @@ use mathlib.Core.Logic.{dite}
 use native.Mathlib.Decide.{ℕ_discrete}
 use Rattle.cell_table.specs.Pass.{PassState, IsHeld, trail_of}
 use Rattle.attempt_lists.specs.Cells.{Entries, word_at, put}
-use Rattle.tx_core.specs.Calls.{TouchesOnly, UsesAtMost, HoldsWrites, Locks}
+use Rattle.tx_core.specs.Calls.{TouchesOnly, UsesAtMost, HoldsWrites, KeepsHeld, Locks}
 use Rattle.tx_core.specs.Causes.{GrewBy}
 use Rattle.tx_core.specs.Facts.{grew_none, grew_more, grew_trans, held_kept, length_insert}
-use Rattle.tx_core.specs.Sequences.{LocksUpTo}
+use Rattle.tx_core.specs.Sequences.{LocksUpTo, LocksAnd}
 use Rattle.tx_core.specs.Tx.{Attempt, Observed, ObservedLate}
 use Rattle.tx_core.specs.Words.{put_other}
 
@@ -102,6 +102,32 @@ module _ {M D : Type 0} where
 
   pub locks_wider : (n m : ℕ) (p q : PassState M D) → n ≤ m → LocksUpTo n p q → LocksUpTo m p q
   locks_wider n m p q le a = record { least = a.least; most = omega (arith, le, a.most); steps = a.steps }
+
+  pub locks_then : (n m : ℕ) (p q r : PassState M D) → LocksUpTo n p q → LocksAnd m q r → LocksAnd m p r
+  locks_then n m p q r a b = record {
+    least = omega (arith, a.least, b.least);
+    steps = grew_more (3 * (length q.view.held - length p.view.held) + (3 * (length r.view.held - length q.view.held) + m)) _ _ _ (omega (arith, a.least, b.least)) (grew_trans _ _ _ _ _ a.steps b.steps);
+  }
+
+  -- steps that lock nothing
+  pub locks_looked : (n m : ℕ) (p q : PassState M D) → n ≤ m → q.view.held ≡ p.view.held → GrewBy n (trail_of p) (trail_of q) → LocksAnd m p q
+  locks_looked n m p q le held grew = record { least = omega (arith, ap length held); steps = grew_more n _ _ _ (omega (arith, le)) grew }
+
+  -- a cell that isn't held later wasn't before
+  pub free_before : (a b : Attempt M D) → KeepsHeld a b → (c : ℕ) → has c (cells_of b.pass.view.held) ≡ false → has c (cells_of a.pass.view.held) ≡ false
+  free_before a b kept c free = by (has c (cells_of a.pass.view.held)) refl
+    where
+      by : (h : Bool) → has c (cells_of a.pass.view.held) ≡ h → h ≡ false
+      by true is = let there = kept c is in cc
+      by false is = refl
+
+  -- nor is one that is held by no means
+  pub free_cell : (a : Attempt M D) (c : ℕ) → (IsHeld a.pass c → ⊥) → has c (cells_of a.pass.view.held) ≡ false
+  free_cell a c never = by (has c (cells_of a.pass.view.held)) refl
+    where
+      by : (h : Bool) → has c (cells_of a.pass.view.held) ≡ h → h ≡ false
+      by true is = absurd (never is)
+      by false is = refl
 
   -- a lock of the commit
   pub locks_late : (a b : Attempt M D) (cell : ℕ)

@@ -14,16 +14,16 @@ use Rattle.attempt_lists.specs.Cells.{Entries, word_at, word_of, cell_at}
 use Rattle.attempt_lists.specs.Parts.{Waiting, waiting_of, marked_of}
 use Rattle.tx_core.specs.Tx.{Attempt, ObservedLate}
 use Rattle.tx_core.specs.Parts.{Shows}
-use Rattle.tx_core.specs.Causes.{IsFoundAt, FoundTwice}
+use Rattle.tx_core.specs.Causes.{IsFoundAt, FoundTwice, GrewBy}
 use Rattle.tx_core.specs.Seen.{IsFirstChanged}
 use Rattle.tx_core.specs.declared.spare.Spare.{Spare}
 use Rattle.tx_core.specs.declared.stop.Stop.{Stop}
 use Rattle.tx_core.specs.declared.stop.Stop.TheVariants.{Held, Newer, Memory}
 use Rattle.tx_core.specs.Calls.{TouchesOnly, StepsAt, KeepsOthers, UsesAtMost, Locks, IsFoundIn, IsUnseen, CausedIn, stopped_from, known, waiting}
 use Rattle.tx_core.specs.Words.{length_after}
-use Rattle.tx_core.specs.Facts.{found_wider, found_at_in, steps_none, steps_wider, steps_trans, caused_second, length_grown}
+use Rattle.tx_core.specs.Facts.{found_wider, found_at_in, held_kept, steps_none, steps_wider, steps_trans, caused_second, length_grown}
 use Rattle.tx_core.specs.Sequences.{CellSequence, Makes, Settles, Exceeds, place_of, IsAddition, IsEndOrAddition, LocksUpTo, FoundEnd, IsPlace, IsExtended, IsStoppedAt, IsSettledBy, IsSettled, IsStopped, IsFull, Placing}
-use Rattle.tx_core.specs.OneCell.{IsLateHold, late_hold_is, late_writes, holds_late, locked_and_checked, locks_late, locks_trans, locks_wider}
+use Rattle.tx_core.specs.OneCell.{IsLateHold, late_hold_is, late_writes, holds_late, locked_and_checked, locks_late, locks_trans, locks_wider, locks_then, locks_looked, free_before, free_cell}
 use Rattle.tx_core.specs.SequencePlaces.{HasPlaces, found_stays, twice_later, twice_at_cell}
 
 -- ---- what the cells of additions make of the values
@@ -192,8 +192,8 @@ module _ {M D : Type 0} (s : CellSequence) where
   pub full_refused : (Exceeding : ℕ → Type 0) (a b d : Attempt M D) (word t n more : ℕ) → HoldsEnd a b word → n ≡ s.length_of word → more ≡ length (waiting s.part a) → s.capacity < n + more → Exceeding (n + more)
       → (b.version ≤ t) × (t ≡ d.pass.view.known) × (later : List Event) × (trail_of d.pass ≡ trail_of b.pass ++ ClockLoaded t ∷ later)
       → ((i : ℕ) → i < length b.observations → Observes d.pass.view (cell_at b.observations i) (word_of b.observations i) t)
-      → d ≡ record b { pass = d.pass; committing = true } → IsFull s Exceeding a d n more
-  full_refused Exceeding a b d word t n more e long adding above exceeds place check same =
+      → GrewBy (1 + length b.observations) (trail_of b.pass) (trail_of d.pass) → d.pass.view.held ≡ b.pass.view.held → d ≡ record b { pass = d.pass; committing = true } → IsFull s Exceeding a d n more
+  full_refused Exceeding a b d word t n more e long adding above exceeds place check grew held same =
       let os : d.observations ≡ b.observations = ap (λ (a : Attempt M D). a.observations) same in
       record {
         word = word;
@@ -205,16 +205,20 @@ module _ {M D : Type 0} (s : CellSequence) where
         late = rw (← (place.1)) (omega (arith, place.0, ap (λ (a : Attempt M D). a.version) e.late.is));
         loaded = (e.does.steps.0, place.2, rw (← (place.1)) (place.3 ∙ ap (λ (u : List Event). u ++ ClockLoaded t ∷ place.2) e.does.steps.1));
         stands = rw (os, ← (place.1)) check;
+        few = locks_then 1 _ a.pass b.pass d.pass e.locks (locks_looked (1 + length b.observations) _ b.pass d.pass (omega (arith, ap length os)) held grew);
         same = locked_and_checked a b d s.end e.late same;
       }
 
   pub end_refused : (a d : Attempt M D) (stop : Stop) → IsFoundAt s.end stop → d ≡ record a { pass = d.pass; state = stopped_from a.state; committing = true } → CausedIn a d stop
-      → (word_at a.observations s.end ≡ None → FoundTwice (length (trail_of a.pass)) (trail_of d.pass) stop) → IsStopped s a d stop
-  end_refused a d stop at is cause twice = record {
+      → (word_at a.observations s.end ≡ None → FoundTwice (length (trail_of a.pass)) (trail_of d.pass) stop)
+      → (IsHeld a.pass s.end → ⊥) → d.pass.view.held ≡ a.pass.view.held → GrewBy 2 (trail_of a.pass) (trail_of d.pass) → IsStopped s a d stop
+  end_refused a d stop at is cause twice free held grew = record {
     state = ap (λ (t : Attempt M D). t.state) is;
     found = found_at_in _ s.end stop (inl (inl refl)) at;
     cause = cause;
     twice = twice_at_cell a s.end _ _ stop at twice;
+    free = found_at_in _ s.end stop (free_cell a s.end free) at;
+    few = locks_looked 2 _ a.pass d.pass (omega arith) held grew;
   }
 
   -- an observed cell of the attempt whose end is held: it was observed before, or is the end
@@ -237,12 +241,15 @@ module _ {M D : Type 0} (s : CellSequence) where
       by Memory at unseen some = at
 
   -- all that was observed was validated, and one of it has changed
-  pub check_refused : (a b d : Attempt M D) (word : ℕ) (stop : Stop) → HoldsEnd a b word → d.state ≡ stopped_from b.state → IsFirstChanged d.pass.view b.observations b.versions stop → CausedIn b d stop → d.pass.view.held ≡ b.pass.view.held → IsStopped s a d stop
-  check_refused a b d word stop e state first cause held = record {
+  pub check_refused : (a b d : Attempt M D) (word : ℕ) (stop : Stop) → HoldsEnd a b word → d.state ≡ stopped_from b.state → IsFirstChanged d.pass.view b.observations b.versions stop → CausedIn b d stop → d.pass.view.held ≡ b.pass.view.held
+      → d.observations ≡ b.observations → GrewBy (1 + length b.observations) (trail_of b.pass) (trail_of d.pass) → IsStopped s a d stop
+  check_refused a b d word stop e state first cause held os grew = record {
     state = state ∙ ap stopped_from (ap (λ (t : Attempt M D). t.state) e.late.is);
     found = found_at_in _ (cell_at b.observations first.place) stop (elim (observed_before a b first.place e.late first.in_range) [ inl some ↦ inr some | inr end ↦ inl (inl end) ]) first.found;
     cause = caused_second 3 a b d stop e.does.version e.does.pass.books e.does.steps cause;
     twice = λ unseen. absurd (seen_at_observed a b first.place stop e.late first.in_range first.found (rw (← held) first.free) e.held unseen);
+    free = found_at_in _ (cell_at b.observations first.place) stop (free_before a b (held_kept _ a b e.does.touches) _ (rw (← held) first.free)) first.found;
+    few = locks_then 1 _ a.pass b.pass d.pass e.locks (locks_looked (1 + length b.observations) _ b.pass d.pass (omega (arith, ap length os)) held grew);
   }
 
   -- the places of the additions, by the word that was found
@@ -257,6 +264,8 @@ module _ {M D : Type 0} (s : CellSequence) where
     found = found_wider _ _ stop (λ c one. inl (places_found a b d word e touches c (inr one))) stopped.found;
     cause = caused_second 3 a b d stop e.does.version e.does.pass.books e.does.steps stopped.cause;
     twice = twice_later (λ c. c ≡ s.end) (IsAddition s word (length (waiting s.part b))) a b _ _ _ stop e.does.touches (λ c one end. places.free one.0 one.1 (sym one.2 ∙ end)) (length_grown _ _ _ e.does.steps) stopped.found stopped.twice;
+    free = found_wider _ _ stop (λ c free. free_before a b (held_kept _ a b e.does.touches) c free) stopped.free;
+    few = locks_then 1 _ a.pass b.pass d.pass e.locks stopped.few;
   }
 
   -- all additions are placed

@@ -15,7 +15,7 @@ use Rattle.tx_core.specs.Calls.{GoesOn, TouchesOnly, StepsAt, UsesAtMost, KeepsO
 use Rattle.tx_core.specs.Words.{put_other, put_same}
 use Rattle.tx_core.specs.Facts.{held_kept, found_wider, caused_second, grew_none, goes_none, touches_none, steps_none, steps_wider, steps_trans, length_grown, known_stays}
 use Rattle.tx_core.specs.Sequences.{CellSequence, place_of, next_of, IsAddition, IsEndOrAddition, LocksUpTo, IsPlaced, IsStoppedAt, IsExtended, IsSettledBy, FoundEnd}
-use Rattle.tx_core.specs.OneCell.{IsLateHold, holds_late, holds_put, locks_none, locks_trans, locks_wider}
+use Rattle.tx_core.specs.OneCell.{IsLateHold, holds_late, holds_put, locks_none, locks_trans, locks_wider, locks_then, free_before}
 use Rattle.tx_core.specs.declared.stop.Stop.{Stop}
 use Rattle.tx_core.specs.declared.stop.Stop.TheVariants.{Held, Newer, Memory}
 
@@ -221,6 +221,8 @@ module _ {M D : Type 0} where
           found = found_wider _ _ stop (λ c here. next_is_one a b next v (waiting s.part m) c places p waits here) stopped.found;
           cause = caused_second (3 * length p.taken + 0) a m d stop upto.version upto.pass.books upto.steps stopped.cause;
           twice = twice_later (IsAddition s word (length p.taken)) (λ c. c ≡ next_of s next) a m _ _ _ stop upto.touches off (length_grown _ _ _ upto.steps) stopped.found stopped.twice;
+          free = found_wider _ _ stop (λ c free. free_before a m (held_kept _ a m upto.touches) c free) stopped.free;
+          few = locks_then (length p.taken) _ a.pass m.pass d.pass (rw (ap (λ (t : Attempt M D). t.pass) took) p.locks) stopped.few;
         }
 
     -- ---- all are placed, and the end is written

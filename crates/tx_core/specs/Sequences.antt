@@ -1,6 +1,8 @@
 -- Sequences of values in cells, as a log or a queue: what a call makes of one, and what the placing of its additions at the commit says.
-use Rattle.std.specs.Prelude.{◌≡◌, ◌≢◌, ℕ, ◌+◌, ◌-◌, ◌*◌, ◌<◌, ◌≤◌, true, List, [], ◌∷◌, ◌++◌, ◌⊎◌, length, slice_index, Some, IsSome}
+use Rattle.std.specs.Prelude.{◌≡◌, ◌≢◌, ℕ, ◌+◌, ◌-◌, ◌*◌, ◌<◌, ◌≤◌, true, List, [], ◌∷◌, ◌++◌, ◌⊎◌, false, length, slice_index, Some, IsSome}
 use Rattle.std.specs.Option.{option_or}
+use Rattle.cell_table.specs.Cells.{has}
+use Rattle.cell_table.specs.Rule.{cells_of}
 use Rattle.cell_table.specs.declared.view.Event.{Event}
 use Rattle.cell_table.specs.declared.view.Event.TheVariants.{ClockLoaded}
 use Rattle.cell_table.specs.Steps.{Observes}
@@ -70,19 +72,27 @@ module _ {M D : Type 0} where
     pub most : length q.view.held ≤ length p.view.held + n
     pub steps : GrewBy (3 * (length q.view.held - length p.view.held)) (trail_of p) (trail_of q)
 
+  -- the pass made three steps for each cell that came to be held, and at most n others
+  pub record LocksAnd (n : ℕ) (p q : PassState M D) : Type 0 where
+    pub least : length p.view.held ≤ length q.view.held
+    pub steps : GrewBy (3 * (length q.view.held - length p.view.held) + n) (trail_of p) (trail_of q)
+
   -- What a call makes of the sequence, as the attempt has it: the values in the cells, and behind them its own additions.
   -- In any cells in which all holds that the attempt observed, and which are well formed with its earlier writes laid over them,
   -- they are with its later writes, too, and P holds of the sequence before the call and after it.
   abbrev pub Makes : (List ℕ → Type 0) → (List ℕ → List ℕ) → ℕ → Attempt M D → Attempt M D → (List ℕ → List ℕ → Type 0) → Type 0
   Makes IsFormed values part old new P = Explains IsFormed old new (λ before after. IsFormed after × P (values before ++ waiting part old) (values after ++ waiting part new))
 
-  -- A stop at a cell with P, with its cause in the steps of this call. Where a cell that wasn't observed before is newer, two
-  -- versions of it were found.
+  -- A stop at a cell with P that wasn't held before, with its cause in the steps of this call. Where a cell that wasn't observed
+  -- before is newer, two versions of it were found.
   pub record IsStoppedAt (P : ℕ → Type 0) (old new : Attempt M D) (stop : Stop) : Type 0 where
     pub state : new.state ≡ stopped_from old.state
     pub found : IsFoundIn P stop
     pub cause : CausedIn old new stop
     pub twice : IsUnseen old stop → FoundTwice (length (trail_of old.pass)) (trail_of new.pass) stop
+    pub free : IsFoundIn (λ c. has c (cells_of old.pass.view.held) ≡ false) stop
+    -- beside its locks it takes no more steps than a look at one cell or at all that was observed
+    pub few : LocksAnd (2 + length new.observations) old.pass new.pass
 
   module _ (s : CellSequence) where
     -- One value came into a cell, which is written and held, and the attempt goes on
@@ -137,6 +147,7 @@ module _ {M D : Type 0} where
       pub late : old.version ≤ new.pass.view.known
       pub loaded : (first next : List Event) × (trail_of new.pass ≡ trail_of old.pass ++ first ++ ClockLoaded new.pass.view.known ∷ next)
       pub stands : (i : ℕ) → i < length new.observations → Observes new.pass.view (cell_at new.observations i) (word_of new.observations i) new.pass.view.known
+      pub few : LocksAnd (1 + length new.observations) old.pass new.pass
       pub same : new ≡ record old { pass = new.pass; observations = new.observations; versions = new.versions; spare = new.spare; committing = true }
 
     abbrev pub IsRefused : (ℕ → Type 0) → Attempt M D → Attempt M D → ResolveEnd → Type 0

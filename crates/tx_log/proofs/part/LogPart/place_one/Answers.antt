@@ -1,7 +1,7 @@
-use Rattle.std.proofs.Common.{◌≡◌, ◌+◌, refl, ap}
+use Rattle.std.proofs.Common.{◌≡◌, ◌+◌, refl, ap, arith}
 use Rattle.tx_core.specs.Tx.{Attempt}
 use Rattle.tx_core.specs.Facts.{steps_trans, found_at_in}
-use Rattle.tx_core.specs.OneCell.{late_hold_is, locks_late}
+use Rattle.tx_core.specs.OneCell.{late_hold_is, locks_late, locks_looked, free_cell}
 use Rattle.tx_core.specs.SequencePlaces.{placed_one, twice_at_cell}
 use Rattle.tx_log.specs.Log.{sequence_of}
 use Rattle.tx_log.proofs.part.LogPart.place_one.Goals as goal
@@ -30,4 +30,6 @@ returns-in-Err-clause-stopped g c =
       found = found_at_in (λ k. k ≡ cell) cell c.in-Err.stop refl r.stopped.0;
       cause = r.leaves.ends.cause;
       twice = twice_at_cell c.args.tx.now cell _ _ c.in-Err.stop r.stopped.0 r.twice;
+      free = found_at_in _ cell c.in-Err.stop (free_cell c.args.tx.now cell (λ held. let no = (r.already held).0 in cc)) r.stopped.0;
+      few = locks_looked 2 _ c.args.tx.now.pass c.late_hold.new.self.pass (omega arith) r.stopped.2.1.held r.steps;
     }

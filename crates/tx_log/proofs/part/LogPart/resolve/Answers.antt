@@ -25,7 +25,7 @@ returns-in-Ok-check_now-clause-refused g c =
       refl,
       full_refused (sequence_of log) _ old mid new c.in-Ok.shared _ c.in-Ok.shared c.pending-adding.result e refl c.pending-adding.ensures (omega (arith, c.if-saturating_add-from.true))
           (makes_nothing (sequence_of log) (IsLog log) (values_in log) (log_is_sequence log) old mid new c.in-Ok.shared _ e (ap (λ (a : Attempt _ _). a.writes) k.same) (ap (λ (a : Attempt _ _). a.observations) k.same) (ap (λ (a : Attempt _ _). a.additions) k.same) c.laid_over_law.ensures.shows sum)
-          k.place k.check k.same,
+          k.place k.check k.does.steps k.knows.held k.same,
     )
 
 pub returns-in-Err-check_now-clause-refused : goal.returns-in-Err-check_now-clause-refused
@@ -34,6 +34,7 @@ returns-in-Err-check_now-clause-refused g c =
     let e = holds_end (sequence_of c.args.self.now) c.args.tx.now c.late_hold.new.self c.in-Ok.shared r.already r.known r.observes r.takes r.value r.held r.leaves.does in
     let k = c.in-Err-check_now.ensures in
     check_refused (sequence_of c.args.self.now) c.args.tx.now c.late_hold.new.self c.check_now.new.self c.in-Ok.shared c.in-Err-check_now.stop e (ap (λ (a : Attempt _ _). a.state) k.stopped.1) k.first k.cause k.knows.held
+    (ap (λ (a : Attempt _ _). a.observations) k.stopped.1) k.does.steps
 
 pub returns-in-Ok-place_all-clause-placed : goal.returns-in-Ok-place_all-clause-placed
 returns-in-Ok-place_all-clause-placed g c =
@@ -65,6 +66,7 @@ pub returns-in-Err-clause-refused : goal.returns-in-Err-clause-refused
 returns-in-Err-clause-refused g c =
     let r = c.in-Err.ensures in
     end_refused (sequence_of c.args.self.now) c.args.tx.now c.late_hold.new.self c.in-Err.stop r.stopped.0 r.stopped.1 r.leaves.ends.cause r.twice
+    (λ held. let no = (r.already held).0 in cc) r.stopped.2.1.held r.steps
 
 pub returns-in-Err-clause-leaves : goal.returns-in-Err-clause-leaves
 returns-in-Err-clause-leaves g c =
