@@ -1,8 +1,8 @@
 //! The places of all structures of a store.
 ghost use Rattle.std.specs.Prelude.{◌≡◌, ◌-◌, ◌^◌, ◌<◌, ◌≤◌, ◌↔◌, length, get_or, min, IfOk};
-ghost use Rattle.store_layout.specs.Shapes.{the_map, the_queue, the_pool, the_log, the_cell, shape_of, cells_of, first_of, IsLayout, most_cells};
+ghost use Rattle.store_layout.specs.Shapes.{the_map, the_queue, the_pool, the_log, the_cell, shape_of, cells_of, first_of, with_end, queues_from, pools_from, logs_from, plain_from, IsLayout, most_cells};
 ghost use Rattle.store_layout.specs.Spots.{IsSpotOf, cell_of};
-ghost use Rattle.store_layout.specs.Plans.{IsTooLarge, IfTooLarge};
+ghost use Rattle.store_layout.specs.Plans.{StandFrom, IsTooLarge, IfTooLarge};
 
 use crate::arrange::{places, slots};
 use crate::find::{find_place, log_spot, queue_spot};
@@ -106,6 +106,47 @@ impl CellPlan {
         ensures capacity { result.capacity ≡ get_or self.now.logs log 0 }
     {
         self.logs[log as usize]
+    }
+
+    /// The places of all maps, in the order of their numbers.
+    pub fn map_places(&self) -> &[Place]
+        ensures stand { StandFrom (λ c. c) 0 self.now.maps result.now }
+        ensures few { length result.now < 2 ^ 32 }
+    {
+        self.maps.as_slice()
+    }
+
+    /// The places of all queues.
+    pub fn queue_places(&self) -> &[Place]
+        ensures stand { StandFrom with_end (queues_from self.now) self.now.queues result.now }
+        ensures few { length result.now < 2 ^ 32 }
+    {
+        self.queues.as_slice()
+    }
+
+    /// The places of all pools.
+    pub fn pool_places(&self) -> &[Place]
+        ensures stand { StandFrom (λ c. c) (pools_from self.now) self.now.pools result.now }
+        ensures few { length result.now < 2 ^ 32 }
+    {
+        self.pools.as_slice()
+    }
+
+    /// The places of all logs.
+    pub fn log_places(&self) -> &[Place]
+        ensures stand { StandFrom with_end (logs_from self.now) self.now.logs result.now }
+        ensures few { length result.now < 2 ^ 32 }
+    {
+        self.logs.as_slice()
+    }
+
+    /// The place of the plain cells.
+    pub fn plain_place(&self) -> Place
+        ensures first { result.first ≡ plain_from self.now }
+        ensures capacity { result.capacity ≡ self.now.cells }
+        ensures small { cells_of self.now ≤ most_cells }
+    {
+        self.plain
     }
 
     /// The cell of a plain cell.
