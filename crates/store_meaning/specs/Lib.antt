@@ -1,3 +1,5 @@
 pub mod Meant
 pub mod Follows
 pub mod Laws
+pub mod Claims
+pub mod ClaimFacts
