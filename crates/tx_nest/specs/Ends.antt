@@ -5,10 +5,6 @@ use Rattle.cell_table.specs.declared.view.Event.{Event}
 use Rattle.cell_table.specs.declared.view.Event.TheVariants.{ClockLoaded}
 use Rattle.tx_core.specs.Causes.{CausedSince, IsFound}
 use Rattle.tx_core.specs.declared.stop.Stop.{Stop}
-use Rattle.tx_core.specs.declared.stop.TxState.{TxState}
-use Rattle.tx_core.specs.declared.stop.TxState.TheVariants.{Running}
-use Rattle.tx_nest.specs.declared.tries.NestEnd.{NestEnd}
-use Rattle.tx_nest.specs.declared.tries.NestEnd.TheVariants.{Parent, Spent, Memory}
 
 -- the second trail begins with the first
 abbrev pub Grew : List Event → List Event → Type 0
@@ -44,27 +40,3 @@ IsSpent callers n version t last next u = ChildrenEnded callers n version t last
 -- After the first n steps the clock was loaded, and the stop was found, with its cause
 abbrev pub IsRefusedRaise : List ℕ → ℕ → ℕ → List Event → Stop → Type 0
 IsRefusedRaise callers version n u stop = IsFound stop × ((word : ℕ) × ClockedSince n u word) × CausedSince callers version n u stop
-
--- a stop of the parent has P
-abbrev pub OnParent : NestEnd → (Stop → Type 0) → Type 0
-OnParent (Parent stop) P = P stop
-OnParent (Spent n last) P = Unit {0}
-OnParent Memory P = Unit {0}
-
--- the number of children that were ended, and the stop of the last one, have P
-abbrev pub OnSpent : NestEnd → (ℕ → Stop → Type 0) → Type 0
-OnSpent (Parent stop) P = Unit {0}
-OnSpent (Spent n last) P = P n last
-OnSpent Memory P = Unit {0}
-
--- after want of memory P holds
-abbrev pub OnMemory : NestEnd → Type 0 → Type 0
-OnMemory (Parent stop) P = Unit {0}
-OnMemory (Spent n last) P = Unit {0}
-OnMemory Memory P = P
-
--- the attempt runs, unless its own stop is the end
-abbrev pub GoesOnUnlessParent : NestEnd → TxState → Type 0
-GoesOnUnlessParent (Parent stop) state = Unit {0}
-GoesOnUnlessParent (Spent n last) state = state ≡ Running
-GoesOnUnlessParent Memory state = state ≡ Running

@@ -4,10 +4,13 @@ use Rattle.std.proofs.Common.{ap, refl, ◌∙◌, sym, arith, length-append}
 use Rattle.std.proofs.Math.Path.{fun_ext}
 use Rattle.std.proofs.lemmas.List.{append-nil, take-append-le}
 use Rattle.cell_table.specs.Pass.{IsSole}
+use Rattle.cell_table.specs.Steps.{Grows}
+use Rattle.cell_table.specs.declared.view.View.{View}
 use Rattle.attempt_lists.specs.Cells.{Entries, word_at}
 use Rattle.attempt_lists.specs.Parts.{waiting_of, marked_of}
+use Rattle.tx_core.specs.Facts.{observes_grows}
 use Rattle.tx_core.specs.Tx.{Attempt, Observed}
-use Rattle.tx_nest.specs.OverTx.{Content, Fixed, content_of, fixed_of, remembered_by, HasMark}
+use Rattle.tx_nest.specs.OverTx.{Content, Fixed, content_of, fixed_of, remembered_by, HasMark, Vouches}
 
 -- contents are the same by their lists, and by what waits for each part
 pub same_content : {D : Type 0} (o p : Entries) (v w : List ℕ) (x y : Entries) (n k : List D) (h l : List (ℕ × ℕ)) (f g : ℕ → List ℕ)
@@ -18,6 +21,14 @@ same_content o p v w x y n k h l f g a b c d e each =
     rw (a, b, c, d, e, waits) refl
 
 module _ {M D : Type 0} where
+  -- a view knows what it knows
+  pub grows_all : (v : View M D) → Grows v v
+  grows_all v = record { meaning = refl; opening = refl; total = refl; known = omega arith; values = λ t among. among; validations = λ t among. among }
+
+  -- what stands by what was known stands by what is known since
+  pub vouches_on : (a b : Attempt M D) (c : Content D) (place : ℕ) → Grows a.pass.view b.pass.view → Vouches a c place → Vouches b c place
+  vouches_on a b c place grows vouches = λ i lt. observes_grows _ _ _ _ _ grows (vouches i lt)
+
   pub notes_of : (a b : Attempt M D) → content_of a ≡ content_of b → a.notes ≡ b.notes
   notes_of a b e = ap (λ (c : Content D). c.notes) e
 
@@ -48,10 +59,10 @@ module _ {M D : Type 0} where
 
   pub mark_read : (a b : Attempt M D) (cell x : ℕ) (written seen : Option ℕ) → word_at a.writes cell ≡ written → word_at a.observations cell ≡ seen → HasMark a
       → ((y : ℕ) → word_at a.writes cell ≡ Some y → b ≡ a) → ((y : ℕ) → word_at a.writes cell ≡ None → word_at a.observations cell ≡ Some y → b ≡ a) → (word_at a.writes cell ≡ None → word_at a.observations cell ≡ None → Observed a b cell x)
-      → (remembered_by b b.mark ≡ remembered_by a a.mark) × HasMark b × (b.committing ≡ a.committing)
-  mark_read a b cell x (Some y) seen w s has own before observes = rw (own y w) (refl, has, refl)
-  mark_read a b cell x None (Some y) w s has own before observes = rw (before y w s) (refl, has, refl)
+      → (remembered_by b b.mark ≡ remembered_by a a.mark) × HasMark b × (b.committing ≡ a.committing) × (b.table ≡ a.table)
+  mark_read a b cell x (Some y) seen w s has own before observes = rw (own y w) (refl, has, refl, refl)
+  mark_read a b cell x None (Some y) w s has own before observes = rw (before y w s) (refl, has, refl, refl)
   mark_read a b cell x None None w s has own before observes =
       let now = observes w s in
       let kept = mark_observed a b cell x has now in
-      (kept.0, kept.1, ap (λ (t : Attempt M D). t.committing) now.is)
+      (kept.0, kept.1, ap (λ (t : Attempt M D). t.committing) now.is, ap (λ (t : Attempt M D). t.table) now.is)

@@ -1,11 +1,8 @@
 //! What a child needs of its attempt, and what it does.
-ghost use Rattle.std.specs.Prelude.{◌≡◌, ℕ, ◌≤◌, ◌⊎◌, Bool, false, List, ◌++◌, length, IsOk, IfOk, IfErr, OnOk, OnErr};
-ghost use Rattle.cell_table.specs.declared.view.Event.{Event};
-ghost use Rattle.tx_core.specs.Causes.{CausedSince};
+ghost use Rattle.std.specs.Prelude.{◌≡◌, ℕ, ◌⊎◌, List, IsOk, IfOk, IfErr, OnOk, OnErr};
 ghost use Rattle.tx_core.specs.declared.stop.Stop.TheVariants.{Memory};
-ghost use Rattle.tx_core.specs.declared.stop.TxState.{TxState};
-ghost use Rattle.tx_core.specs.declared.stop.TxState.TheVariants.{Running, Child, ChildStopped, Stopped};
-ghost use Rattle.tx_nest.specs.Ends.{Grew, ClockedSince, IsRefusedRaise};
+ghost use Rattle.tx_core.specs.declared.stop.TxState.TheVariants.{Running, Child};
+ghost use Rattle.tx_nest.specs.Attempts.{AttemptView, MayOpen, IsInChild, HasChild, IsSame, HasSame, IsOpened, IsDropped, IsRaised, IsRefused, StaysInChild, HasAdded, IsBodyStop};
 
 use std::alloc::AllocError;
 use tx_core::Stop;
@@ -20,98 +17,69 @@ pub trait Attempt {
 
     ghost Content: { Type 0 };
 
-    // The table or store that it stands over.
-    ghost over: { Self → Self.Over };
-
-    // What no child changes, as the callers' books and draws.
-    ghost fixed: { Self → Fixed };
-
-    // It holds every caller number: no other caller stops it.
-    ghost sole: { Self → Type 0 };
-
-    // A call of its commit was made.
-    ghost committing: { Self → Bool };
-
-    // The caller numbers of its pass.
-    ghost callers: { Self → List ℕ };
-
-    ghost state: { Self → TxState };
-
-    ghost version: { Self → ℕ };
-
-    ghost calls: { Self → List Self.Call };
-
-    // The values that wait for the commit, by part.
-    ghost pending: { Self → ℕ → List ℕ };
-
-    // The calls and the waiting values among them, with the observations, writes and held cells.
-    ghost content: { Self → Content };
-
-    // What the mark remembers.
-    ghost marked: { Self → Content };
+    ghost view: { Self → AttemptView Self.Over Fixed Content Self.Call };
 
     // It has a mark, which counts no more than it has.
     ghost has_mark: { Self → Type 0 };
 
-    ghost trail: { Self → List Event };
+    // It holds every caller number: no other caller stops it.
+    ghost sole: { Self → Type 0 };
 
     // What was observed in this content stands at this place of the history.
     ghost vouches: { Self → Content → ℕ → Type 0 };
+
+    // The second knows of the history what the first knew.
+    ghost grows: { Self → Self → Type 0 };
 
     // It was refused memory for a child.
     ghost refused: { Self → Type 0 };
 
     /// Opens a child: what the attempt has now is marked. After want of memory the attempt is unchanged.
     fn child_begin(&mut self) -> Result<(), AllocError>
-        requires running { state self.old ≡ Running }
-        requires before_commit { committing self.old ≡ false }
-        ensures before_commit { committing self.new ≡ false }
-        ensures same { (over self.new ≡ over self.old) × (fixed self.new ≡ fixed self.old) × (callers self.new ≡ callers self.old) }
-        ensures state { OnOk result (state self.new ≡ Child) }
-        ensures version { version self.new ≡ version self.old }
-        ensures content { (content self.new ≡ content self.old) × (calls self.new ≡ calls self.old) × (pending self.new ≡ pending self.old) }
-        ensures marked { OnOk result ((marked self.new ≡ content self.old) × has_mark self.new) }
-        ensures trail { trail self.new ≡ trail self.old }
-        ensures vouches { (c : Content) (v : ℕ) → vouches self.old c v → vouches self.new c v }
+        requires running { MayOpen (view self.old) }
+        ensures same { IsSame (view self.old) (view self.new) }
+        ensures grows { grows self.old self.new }
+        ensures opened { OnOk result (IsOpened (view self.old) (view self.new) × has_mark self.new) }
         ensures memory { OnErr result ((self.new ≡ self.old) × refused self.new) };
 
     /// Lets all that the child did belong to the attempt.
     fn child_commit(&mut self)
-        requires child { state self.old ≡ Child }
-        requires before_commit { committing self.old ≡ false }
-        ensures before_commit { committing self.new ≡ false }
-        ensures same { (over self.new ≡ over self.old) × (fixed self.new ≡ fixed self.old) × (callers self.new ≡ callers self.old) }
-        ensures state { state self.new ≡ Running }
-        ensures version { version self.new ≡ version self.old }
-        ensures content { (content self.new ≡ content self.old) × (calls self.new ≡ calls self.old) × (pending self.new ≡ pending self.old) }
-        ensures trail { trail self.new ≡ trail self.old }
-        ensures vouches { (c : Content) (v : ℕ) → vouches self.old c v → vouches self.new c v };
+        requires child { IsInChild (view self.old) }
+        ensures same { IsSame (view self.old) (view self.new) }
+        ensures grows { grows self.old self.new }
+        ensures merged { ((view self.new).state ≡ Running) × HasSame (view self.old) (view self.new) };
 
     /// Drops all that the child did, whether it was stopped or not, loads the clock and validates what the parent observed.
     ///
     /// Ok: the version is the word of that load. After a stop the attempt is stopped, and its version is as before.
     fn child_abort(&mut self) -> Result<(), Stop>
-        requires child { (state self.old ≡ Child) ⊎ (state self.old ≡ ChildStopped) }
+        requires child { HasChild (view self.old) }
         requires marked { has_mark self.old }
-        requires before_commit { committing self.old ≡ false }
-        ensures before_commit { committing self.new ≡ false }
-        ensures same { (over self.new ≡ over self.old) × (fixed self.new ≡ fixed self.old) × (callers self.new ≡ callers self.old) }
-        ensures content { content self.new ≡ marked self.old }
-        ensures trail { Grew (trail self.old) (trail self.new) }
-        ensures version { version self.old ≤ version self.new }
-        ensures ok { OnOk result ((state self.new ≡ Running) × ClockedSince (length (trail self.old)) (trail self.new) (version self.new)) }
-        ensures err { IfErr result (λ stop. (state self.new ≡ Stopped) × (version self.new ≡ version self.old) × IsRefusedRaise (callers self.old) (version self.old) (length (trail self.old)) (trail self.new) stop) }
+        ensures same { IsSame (view self.old) (view self.new) }
+        ensures grows { grows self.old self.new }
+        ensures dropped { IsDropped (view self.old) (view self.new) }
+        ensures ok { OnOk result (IsRaised (view self.old) (view self.new)) }
+        ensures err { IfErr result (IsRefused (view self.old) (view self.new)) }
         ensures sole { sole self.old → IsOk result }
-        ensures sight { vouches self.new (content self.old) (version self.old) }
-        ensures vouches { (c : Content) (v : ℕ) → vouches self.old c v → vouches self.new c v };
+        ensures sight { vouches self.new (view self.old).content (view self.old).version };
+
+    /// The number under which it acts.
+    fn caller_number(&self) -> u32;
 
     // What the content determines.
-    ghost calls_of: { (a b : Self) → content a ≡ content b → calls a ≡ calls b };
+    ghost calls_of: { (a b : Self) → (view a).content ≡ (view b).content → (view a).calls ≡ (view b).calls };
 
-    ghost pending_of: { (a b : Self) → content a ≡ content b → pending a ≡ pending b };
+    ghost pending_of: { (a b : Self) → (view a).content ≡ (view b).content → (view a).pending ≡ (view b).pending };
 
     // What no child changes determines whether it holds every caller number.
-    ghost sole_of: { (a b : Self) → fixed a ≡ fixed b → sole b → sole a };
+    ghost sole_of: { (a b : Self) → (view a).fixed ≡ (view b).fixed → sole b → sole a };
+
+    // What is known is never forgotten, and what is vouched for stays so.
+    ghost grows_all: { (a : Self) → grows a a };
+
+    ghost grows_then: { (a b c : Self) → grows a b → grows b c → grows a c };
+
+    ghost vouches_on: { (a b : Self) (c : Content) (place : ℕ) → grows a b → vouches a c place → vouches b c place };
 }
 
 /// What a child does. A body doesn't end the child itself, and what a run answers holds of the calls that it adds.
@@ -129,18 +97,15 @@ pub trait ChildBody<A: Attempt> {
 
     /// Runs in the open child. A Held or Newer that it answers was found by a call of this child; its Memory is free.
     fn body(&mut self, tx: &mut A) -> Result<Self::Out, Stop>
-        requires state { A.state tx.old ≡ Child }
-        requires before_commit { A.committing tx.old ≡ false }
+        requires child { IsInChild (A.view tx.old) }
         requires marked { A.has_mark tx.old }
-        requires can_run { can_run self.old (A.over tx.old) (A.calls tx.old) (A.pending tx.old) }
-        ensures same { (A.over tx.new ≡ A.over tx.old) × (A.fixed tx.new ≡ A.fixed tx.old) × (A.callers tx.new ≡ A.callers tx.old) }
-        ensures kept { (A.version tx.new ≡ A.version tx.old) × (A.marked tx.new ≡ A.marked tx.old) × A.has_mark tx.new × (A.committing tx.new ≡ false) }
-        ensures trail { Grew (A.trail tx.old) (A.trail tx.new) }
-        ensures vouches { (c : A.Content) (v : ℕ) → A.vouches tx.old c v → A.vouches tx.new c v }
-        ensures ok { IfOk result (λ out. (A.state tx.new ≡ Child) × ((added : List A.Call) × (A.calls tx.new ≡ A.calls tx.old ++ added) × runs self.old added out)) }
-        ensures err { IfErr result (λ stop. ((A.state tx.new ≡ Child) ⊎ (A.state tx.new ≡ ChildStopped)) × CausedSince (A.callers tx.old) (A.version tx.old) (length (A.trail tx.old)) (A.trail tx.new) stop) }
+        requires can_run { can_run self.old (A.view tx.old).over (A.view tx.old).calls (A.view tx.old).pending }
+        ensures stays { StaysInChild (A.view tx.old) (A.view tx.new) × A.has_mark tx.new }
+        ensures grows { A.grows tx.old tx.new }
+        ensures ok { IfOk result (λ out. ((A.view tx.new).state ≡ Child) × HasAdded (λ added. runs self.old added out) (A.view tx.old) (A.view tx.new)) }
+        ensures err { IfErr result (IsBodyStop (A.view tx.old) (A.view tx.new)) }
         ensures memory { IfErr result (λ stop. stop ≡ Memory → ran_out self.new) }
         ensures sole { IfErr result (λ stop. A.sole tx.old → stop ≡ Memory) }
-        ensures again { can_run self.new (A.over tx.old) (A.calls tx.old) (A.pending tx.old) }
+        ensures again { can_run self.new (A.view tx.old).over (A.view tx.old).calls (A.view tx.old).pending }
         ensures same_relation { (added : List A.Call) (out : Self.Out) → runs self.new added out → runs self.old added out };
 }

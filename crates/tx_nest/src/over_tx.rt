@@ -8,11 +8,11 @@ use tx_core::{Stop, Tx};
 
 /// What a child takes it takes of its attempt, so that no child is refused.
 impl<'a, M: Meaning> Attempt for Tx<'a, M> {
-    ghost use Rattle.cell_table.specs.Rule.{callers_of};
-    ghost use Rattle.cell_table.specs.Pass.{IsSole, trail_of};
-    ghost use Rattle.attempt_lists.specs.Parts.{waiting_of};
-    ghost use Rattle.tx_nest.specs.OverTx.{Content, Fixed, content_of, remembered_by, fixed_of, HasMark, Vouches};
-    ghost use Rattle.tx_nest.specs.OverTxLaws.{notes_of, waits_of, sole_of};
+    ghost use Rattle.cell_table.specs.Pass.{IsSole};
+    ghost use Rattle.cell_table.specs.Steps.{Grows};
+    ghost use Rattle.tx_core.specs.Facts.{grows_trans};
+    ghost use Rattle.tx_nest.specs.OverTx.{Content, Fixed, view_of, HasMark, Vouches};
+    ghost use Rattle.tx_nest.specs.OverTxLaws.{notes_of, waits_of, sole_of, grows_all, vouches_on};
 
     type Call = M::Done;
 
@@ -22,33 +22,15 @@ impl<'a, M: Meaning> Attempt for Tx<'a, M> {
 
     ghost Content = { Content M.Done };
 
-    ghost over = { λ a. a.table };
-
-    ghost fixed = { λ a. fixed_of a };
-
-    ghost sole = { λ a. IsSole a.pass };
-
-    ghost committing = { λ a. a.committing };
-
-    ghost callers = { λ a. callers_of a.pass.view.books };
-
-    ghost state = { λ a. a.state };
-
-    ghost version = { λ a. a.version };
-
-    ghost calls = { λ a. a.notes };
-
-    ghost pending = { λ a part. waiting_of a.additions part };
-
-    ghost content = { λ a. content_of a };
-
-    ghost marked = { λ a. remembered_by a a.mark };
+    ghost view = { λ a. view_of a };
 
     ghost has_mark = { λ a. HasMark a };
 
-    ghost trail = { λ a. trail_of a.pass };
+    ghost sole = { λ a. IsSole a.pass };
 
     ghost vouches = { λ a c place. Vouches a c place };
+
+    ghost grows = { λ a b. Grows a.pass.view b.pass.view };
 
     ghost refused = { λ a. ⊥ };
 
@@ -68,9 +50,19 @@ impl<'a, M: Meaning> Attempt for Tx<'a, M> {
         self.raise()
     }
 
+    fn caller_number(&self) -> u32 {
+        self.caller()
+    }
+
     ghost calls_of = { notes_of };
 
     ghost pending_of = { waits_of };
 
     ghost sole_of = { sole_of };
+
+    ghost grows_all = { λ a. grows_all a.pass.view };
+
+    ghost grows_then = { λ a b c first second. grows_trans a.pass.view b.pass.view c.pass.view first second };
+
+    ghost vouches_on = { vouches_on };
 }

@@ -1,8 +1,8 @@
 //! A child that is tried again.
-ghost use Rattle.std.specs.Prelude.{◌≡◌, ℕ, ◌<◌, ◌≤◌, ◌⊎◌, false, List, ◌++◌, length, IfOk, IfErr, OnErr};
-ghost use Rattle.tx_core.specs.declared.stop.TxState.TheVariants.{Running, Stopped};
+ghost use Rattle.std.specs.Prelude.{◌≡◌, ℕ, ◌<◌, ◌⊎◌, List, IfOk, IfErr, OnErr};
+ghost use Rattle.tx_core.specs.declared.stop.TxState.TheVariants.{Running};
 ghost use Rattle.tx_nest.specs.declared.tries.NestEnd.TheVariants.{Memory};
-ghost use Rattle.tx_nest.specs.Ends.{Grew, IsRefusedRaise, IsSpent, OnParent, OnSpent, OnMemory, GoesOnUnlessParent};
+ghost use Rattle.tx_nest.specs.Attempts.{MayOpen, HasAdded, GoesOn, EndsAs};
 
 use crate::attempt::{Attempt, ChildBody};
 use std::thread;
@@ -20,32 +20,26 @@ pub enum NestEnd {
 }
 
 /// Runs the body in a child, and commits it. A child that was ended by Held or Newer is dropped and tried again, `tries` times
-/// in all.
+/// in all, each time after a longer wait for other threads.
 pub fn nested<A: Attempt, B: ChildBody<A>>(
     tx: &mut A,
     body: &mut B,
     tries: u32,
 ) -> Result<B::Out, NestEnd>
-    requires state { A.state tx.old ≡ Running }
-    requires before_commit { A.committing tx.old ≡ false }
+    requires running { MayOpen (A.view tx.old) }
     requires tries { 0 < tries }
-    requires can_run { B.can_run body.old (A.over tx.old) (A.calls tx.old) (A.pending tx.old) }
-    ensures same { (A.over tx.new ≡ A.over tx.old) × (A.fixed tx.new ≡ A.fixed tx.old) × (A.callers tx.new ≡ A.callers tx.old) × (A.committing tx.new ≡ false) }
-    ensures version { A.version tx.old ≤ A.version tx.new }
-    ensures trail { Grew (A.trail tx.old) (A.trail tx.new) }
-    ensures vouches { (c : A.Content) (v : ℕ) → A.vouches tx.old c v → A.vouches tx.new c v }
-    ensures ok { IfOk result (λ out. (A.state tx.new ≡ Running) × ((added : List A.Call) × (A.calls tx.new ≡ A.calls tx.old ++ added) × B.runs body.old added out)) }
-    ensures parent { IfErr result (λ end. OnParent end (λ stop. (A.state tx.new ≡ Stopped) × IsRefusedRaise (A.callers tx.old) (A.version tx.new) (length (A.trail tx.old)) (A.trail tx.new) stop)) }
-    ensures spent { IfErr result (λ end. OnSpent end (λ n last. (n ≡ tries) × IsSpent (A.callers tx.old) n (A.version tx.old) (A.trail tx.old) last (A.version tx.new) (A.trail tx.new))) }
-    ensures memory { IfErr result (λ end. OnMemory end (A.refused tx.new ⊎ B.ran_out body.new)) }
-    ensures running { IfErr result (λ end. GoesOnUnlessParent end (A.state tx.new)) }
+    requires can_run { B.can_run body.old (A.view tx.old).over (A.view tx.old).calls (A.view tx.old).pending }
+    ensures goes_on { GoesOn (A.view tx.old) (A.view tx.new) }
+    ensures grows { A.grows tx.old tx.new }
+    ensures ok { IfOk result (λ out. ((A.view tx.new).state ≡ Running) × HasAdded (λ added. B.runs body.old added out) (A.view tx.old) (A.view tx.new)) }
+    ensures err { IfErr result (EndsAs tries (A.refused tx.new ⊎ B.ran_out body.new) (A.view tx.old) (A.view tx.new)) }
+    ensures content { OnErr result ((A.view tx.new).content ≡ (A.view tx.old).content) }
     ensures sole { A.sole tx.old → IfErr result (λ end. end ≡ Memory) }
-    ensures content { OnErr result (A.content tx.new ≡ A.content tx.old) }
-    ensures again { B.can_run body.new (A.over tx.old) (A.calls tx.old) (A.pending tx.old) }
+    ensures again { B.can_run body.new (A.view tx.old).over (A.view tx.old).calls (A.view tx.old).pending }
     ensures same_relation { (added : List A.Call) (out : B.Out) → B.runs body.new added out → B.runs body.old added out }
 {
     let mut last = Stop::Memory;
-    for _ in 0..tries {
+    for tried in 0..tries {
         let Ok(()) = tx.child_begin() else {
             return Err(NestEnd::Memory);
         };
@@ -62,9 +56,17 @@ pub fn nested<A: Attempt, B: ChildBody<A>>(
                     return Err(NestEnd::Memory);
                 }
                 last = stop;
-                thread::yield_now();
+                wait_for_others(tried, tx.caller_number());
             }
         }
     }
     Err(NestEnd::Spent { tries, last })
+}
+
+// Lets other threads run before the next try: longer after each one up to a limit, and not equally long for each caller.
+fn wait_for_others(tried: u32, caller: u32) {
+    let least = tried.min(63) + 1;
+    for _ in 0..least + caller % least {
+        thread::yield_now();
+    }
 }

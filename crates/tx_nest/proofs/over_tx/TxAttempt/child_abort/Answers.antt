@@ -1,47 +1,44 @@
-use Rattle.std.proofs.Common.{◌≡◌, ◌∙◌, length, sym, ap}
-use Rattle.cell_table.specs.Rule.{callers_of}
-use Rattle.cell_table.specs.Steps.{Grows}
-use Rattle.cell_table.specs.Pass.{trail_of}
-use Rattle.tx_core.specs.Tx.{Attempt}
+use Rattle.std.proofs.Common.{◌∙◌, sym, ap}
 use Rattle.tx_core.specs.Calls.{GoesBack}
-use Rattle.tx_core.specs.Facts.{caused_earlier, grows_trans, observes_grows}
-use Rattle.tx_nest.specs.Ends.{Grew, ClockedSince}
-use Rattle.tx_nest.proofs.Growing.{grew_length}
-use Rattle.tx_nest.proofs.Dropping.{on_ok, if_err, at_some, clocked_after}
+use Rattle.tx_core.specs.Facts.{observes_grows}
+use Rattle.tx_core.specs.Tx.{Attempt}
+use Rattle.tx_nest.specs.OverTxCalls.{on_ok, if_err, at_some, restated, dropped_same, dropped_grows, dropped, raised, refused, raised_higher}
 use Rattle.tx_nest.proofs.over_tx.TxAttempt.child_abort.Goals.{After-raise}
 use Rattle.tx_nest.proofs.over_tx.TxAttempt.child_abort.Goals as goal
 
 back : (g : _) (c : After-raise g) → GoesBack c.args.self.now c.back_to_mark.new.self c.requires.marked.0
 back g c = at_some c.args.self.now.mark c.requires.marked.0 (λ m. GoesBack c.args.self.now c.back_to_mark.new.self m) c.requires.marked.1 c.back_to_mark.ensures
 
-dropped : (g : _) (c : After-raise g) → Grew (trail_of c.args.self.now.pass) (trail_of c.back_to_mark.new.self.pass)
-dropped g c = let steps = (back g c).steps in (steps.0, steps.1)
+pub returns-clause-same : goal.returns-clause-same
+returns-clause-same g c =
+    let raise = c.raise.ensures in let loads = raise.loads in let mid = c.back_to_mark.new.self in let new = c.raise.new.self in
+    dropped_same c.args.self.now mid new c.requires.marked.0 c.requires.marked.1 (back g c) (restated c.raise.result mid new raise.raised raise.stopped) raise.knows loads.0 loads.1 loads.2 c.requires.child.before_commit
 
-clocked : (g : _) (c : After-raise g) → ClockedSince (length (trail_of c.args.self.now.pass)) (trail_of c.raise.new.self.pass) c.raise.ensures.loads.0
-clocked g c = let loads = c.raise.ensures.loads in clocked_after _ _ _ loads.1 loads.0 (dropped g c) loads.2
+pub returns-clause-grows : goal.returns-clause-grows
+returns-clause-grows g c =
+    let raise = c.raise.ensures in let loads = raise.loads in let mid = c.back_to_mark.new.self in let new = c.raise.new.self in
+    dropped_grows c.args.self.now mid new c.requires.marked.0 c.requires.marked.1 (back g c) (restated c.raise.result mid new raise.raised raise.stopped) raise.knows loads.0 loads.1 loads.2
 
-grown : (g : _) (c : After-raise g) → Grows c.args.self.now.pass.view c.raise.new.self.pass.view
-grown g c = grows_trans _ _ _ (back g c).pass.gives.grows c.raise.ensures.knows.grows
+pub returns-clause-dropped : goal.returns-clause-dropped
+returns-clause-dropped g c =
+    let raise = c.raise.ensures in let loads = raise.loads in let mid = c.back_to_mark.new.self in let new = c.raise.new.self in
+    dropped c.args.self.now mid new c.requires.marked.0 c.requires.marked.1 (back g c) (restated c.raise.result mid new raise.raised raise.stopped) raise.knows loads.0 loads.1 loads.2
+    (raised_higher _ c.raise.result mid new raise.version raise.stopped)
 
 pub returns-clause-ok : goal.returns-clause-ok
 returns-clause-ok g c =
-    on_ok c.raise.result (λ raised version. (
-      ap (λ (a : Attempt _ _). a.state) raised ∙ ap (λ (a : Attempt _ _). a.state) (back g c).is,
-      rw (version.1 ∙ sym c.raise.ensures.loads.3) (clocked g c),
-    )) c.raise.ensures.raised c.raise.ensures.version
+    let raise = c.raise.ensures in let loads = raise.loads in let mid = c.back_to_mark.new.self in let new = c.raise.new.self in
+    on_ok c.raise.result (λ is version. raised c.args.self.now mid new c.requires.marked.0 c.requires.marked.1 (back g c) (restated c.raise.result mid new raise.raised raise.stopped) raise.knows loads.0 loads.1 loads.2
+    (ap (λ (a : Attempt _ _). a.state) is) (version.1 ∙ sym loads.3)) raise.raised raise.version
 
 pub returns-clause-err : goal.returns-clause-err
 returns-clause-err g c =
-    let callers : callers_of c.back_to_mark.new.self.pass.view.books ≡ callers_of c.args.self.now.pass.view.books = ap callers_of (back g c).pass.callers in
-    let version : c.back_to_mark.new.self.version ≡ c.args.self.now.version = ap (λ (a : Attempt _ _). a.version) (back g c).is in
-    if_err c.raise.result (λ stop stopped cause. (
-      ap (λ (a : Attempt _ _). a.state) stopped.1,
-      ap (λ (a : Attempt _ _). a.version) stopped.1 ∙ version,
-      (stopped.0, (c.raise.ensures.loads.0, clocked g c), caused_earlier _ _ _ (length (trail_of c.back_to_mark.new.self.pass)) _ stop (grew_length _ _ (dropped g c)) (rw (← callers, ← version) cause.0)),
-    )) c.raise.ensures.stopped c.raise.ensures.cause
+    let raise = c.raise.ensures in let loads = raise.loads in let mid = c.back_to_mark.new.self in let new = c.raise.new.self in
+    if_err c.raise.result (λ stop stopped cause. refused c.args.self.now mid new c.requires.marked.0 c.requires.marked.1 (back g c) (restated c.raise.result mid new raise.raised raise.stopped) raise.knows loads.0 loads.1 loads.2
+    stop stopped.0 (ap (λ (a : Attempt _ _). a.state) stopped.1) (ap (λ (a : Attempt _ _). a.version) stopped.1) cause.0) raise.stopped raise.cause
 
 pub returns-clause-sight : goal.returns-clause-sight
-returns-clause-sight g c = λ i lt. observes_grows _ _ _ _ _ (grown g c) (c.vouched_law.ensures.stands i lt (c.vouched_law.ensures.early c.requires.before_commit i lt))
-
-pub returns-clause-vouches : goal.returns-clause-vouches
-returns-clause-vouches g c = λ content place h i lt. observes_grows _ _ _ _ _ (grown g c) (h i lt)
+returns-clause-sight g c =
+    let raise = c.raise.ensures in let loads = raise.loads in let mid = c.back_to_mark.new.self in let new = c.raise.new.self in
+    let grows = dropped_grows c.args.self.now mid new c.requires.marked.0 c.requires.marked.1 (back g c) (restated c.raise.result mid new raise.raised raise.stopped) raise.knows loads.0 loads.1 loads.2 in
+    λ i lt. observes_grows _ _ _ _ _ grows (c.vouched_law.ensures.stands i lt (c.vouched_law.ensures.early c.requires.child.before_commit i lt))

@@ -1,8 +1,9 @@
-use Rattle.std.proofs.Common.{◌≡◌, ap}
+use Rattle.std.proofs.Common.{ap}
 use Rattle.tx_core.specs.Tx.{Attempt}
+use Rattle.tx_nest.specs.OverTxCalls.{grows_of_pass}
 use Rattle.tx_nest.proofs.over_tx.TxAttempt.child_commit.Goals as goal
 
-pub returns-clause-vouches : goal.returns-clause-vouches
-returns-clause-vouches g c =
-    let same : c.unmark.new.self.pass ≡ c.args.self.now.pass = ap (λ (a : Attempt _ _). a.pass) c.unmark.ensures in
-    λ content place h i lt. rw same (h i lt)
+pub returns-clause-grows : goal.returns-clause-grows
+returns-clause-grows g c =
+    let is = c.unmark.ensures in
+    grows_of_pass c.args.self.now c.unmark.new.self (ap (λ (a : Attempt _ _). a.pass) is)
