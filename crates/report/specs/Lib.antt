@@ -1,3 +1,4 @@
 pub mod Report
 pub mod Fault
 pub mod Audit
+pub mod Summary

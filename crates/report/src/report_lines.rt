@@ -38,7 +38,7 @@ pub fn report_text(
 
 // What the report counts, each with its word.
 #[tactic(auto, unfolding(crate::specs::Report::counts_of))]
-fn counts(
+pub(crate) fn counts(
     capture: &Capture,
     plan: &Plan,
     incomplete: u32,
@@ -80,7 +80,10 @@ fn is_class(wanted: Class, class: Class) -> bool
     wanted == class
 }
 
-fn push_counts(text: &mut Vec<u8>, counts: &[(&'static [u8], u64)]) -> Result<(), AllocError>
+pub(crate) fn push_counts(
+    text: &mut Vec<u8>,
+    counts: &[(&'static [u8], u64)],
+) -> Result<(), AllocError>
     ensures { OnOk result (text.new.items ≡ text.old.items ++ flat_map (λ count. ended (count_line (count.0.now, count.1))) counts.now) }
 {
     for (word, number) in counts {
@@ -89,7 +92,7 @@ fn push_counts(text: &mut Vec<u8>, counts: &[(&'static [u8], u64)]) -> Result<()
     Ok(())
 }
 
-fn push_count(text: &mut Vec<u8>, word: &[u8], number: u64) -> Result<(), AllocError>
+pub(crate) fn push_count(text: &mut Vec<u8>, word: &[u8], number: u64) -> Result<(), AllocError>
     ensures { OnOk result (text.new.items ≡ text.old.items ++ ended (count_line (word.now, number))) }
 {
     text.extend_from_slice(word)?;

@@ -1,4 +1,4 @@
-use crate::{CaptureFault, Fault, audit_text, report_text, write_fault};
+use crate::{CaptureFault, Fault, audit_text, report_text, summary_text, write_fault};
 use byte_ends::{Failed, MemorySink};
 use capture_terms::{Capture, Class, Frame, Group, Header, Plan};
 use rule_matcher::rules;
@@ -314,6 +314,40 @@ fn an_audit_tells_its_records_and_sights(rt: HostRuntime) -> Result<(), Fail> {
     ] {
         let text = audit_text(rt.alloc(), records, sights)?;
         assert_eq!(rt; text.as_slice(), want.as_bytes());
+    }
+    Ok(())
+}
+
+#[test]
+fn a_summary_has_its_trial_the_counts_and_the_sum(rt: HostRuntime) -> Result<(), Fail> {
+    let alloc = rt.alloc();
+    let cases: [(u64, &[Class], &[u64], [u32; 11], &str); 3] = [
+        (5, &[], &[], [0; 11], "sum 0\n"),
+        (
+            2,
+            &[Class::Other],
+            &[],
+            [1, 1, 0, 0, 0, 0, 0, 0, 0, 0, 0],
+            "sum 0\n",
+        ),
+        (
+            18_446_744_073_709_551_615,
+            &[Class::Whole],
+            &[18_446_744_073_709_551_615, 3],
+            [1, 0, 0, 0, 1, 0, 0, 0, 1, 0, 2],
+            "sum 2\n",
+        ),
+    ];
+    for (seed, classes, findings, counts, sum) in &cases {
+        let frames = classes.len();
+        let capture = capture_of(alloc, frames, 0)?;
+        let plan = plan_of(alloc, classes, 0)?;
+        let text = summary_text(alloc, *seed, frames as u32, &capture, &plan, 0, findings)?;
+        let first = format!(in alloc; "trial {seed} {frames}\n")?;
+        let lines = text_of(alloc, counts, sum)?;
+        let mut want = first.as_bytes().to_vec(alloc)?;
+        want.extend_from_slice(&lines)?;
+        assert_eq!(rt; text.as_slice(), want.as_slice());
     }
     Ok(())
 }
