@@ -7,7 +7,7 @@ use Rattle.capture_generator.specs.Draws.{next_state, given_by, state_after, let
 use Rattle.capture_generator.specs.Headers.{file_header, time_fields, length_fields, more, ipv4_link, ipv4_front, ipv4_back, udp_header}
 use Rattle.capture_generator.specs.Packets.{ipv4_packet, arp_packet, payload_of, letters_in_whole, whole_line, fragments_of, fragment_line, clash_line, packets_for, kind_of, line_state, datagrams_before, lines_of, records_from, record_of, generated_capture}
 
-abbrev IsShort : List ℕ → Type 0
+abbrev pub IsShort : List ℕ → Type 0
 IsShort packet = length packet ≤ 105
 
 abbrev HasOne : List (List ℕ) → Type 0
@@ -89,12 +89,15 @@ records_short number (packet ∷ packets) short =
     let all : length (record_of number packet ++ records_from (suc number) packets) ≡ length (record_of number packet) + length (records_from (suc number) packets) = length-append (record_of number packet) (records_from (suc number) packets) in
     omega (arith, rest, one, all, All-head IsShort packet packets short)
 
+pub packets_short : (seed packets : ℕ) → All IsShort (take packets (lines_of seed packets))
+packets_short seed packets = All-take IsShort packets (lines_of seed packets) (lines_short seed packets)
+
 pub capture_short : (seed packets : ℕ) → packets ≤ 262144 → length (generated_capture seed packets) < 32000000
 unfolding generated_capture
 capture_short seed packets few =
     let kept : List (List ℕ) = take packets (lines_of seed packets) in
     let number : length kept ≡ min packets (length (lines_of seed packets)) = length-take packets (lines_of seed packets) in
-    let records : length (records_from 0 kept) ≤ 121 * length kept = records_short 0 kept (All-take IsShort packets (lines_of seed packets) (lines_short seed packets)) in
+    let records : length (records_from 0 kept) ≤ 121 * length kept = records_short 0 kept (packets_short seed packets) in
     let whole : length (file_header ++ records_from 0 kept) ≡ 24 + length (records_from 0 kept) = length-append file_header (records_from 0 kept) in
     omega (arith, few, number, records, whole)
 

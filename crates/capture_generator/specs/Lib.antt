@@ -1,5 +1,6 @@
 pub mod Draws
 pub mod Headers
 pub mod Packets
+pub mod Reading
 pub mod TrialRules
 pub mod Written

@@ -1,6 +1,7 @@
 // The generated capture.
 ghost use Rattle.std.specs.Prelude.{◌≡◌, ◌<◌, ◌≤◌, length, IfOk};
 ghost use Rattle.capture_generator.specs.Packets.{generated_capture, packets_of};
+ghost use Rattle.capture_generator.specs.Reading.{GeneratedIsRead};
 
 use crate::draws::Draws;
 use crate::written::Written;
@@ -31,4 +32,10 @@ pub fn generated(alloc: Global, seed: u64, frames: u32) -> Result<Vec<u8>, Alloc
 /// A generated capture has as many packets as were asked for.
 pub fn packets_law(seed: u64, frames: u32)
     ensures { length (packets_of seed frames) ≡ frames }
+{}
+
+/// A generated capture of at most 262,144 packets is read as a capture whose frames are these packets,
+/// with nothing torn at its end.
+pub fn generated_is_read_law()
+    ensures { GeneratedIsRead }
 {}

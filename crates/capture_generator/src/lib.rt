@@ -10,6 +10,6 @@ mod tests;
 mod trial;
 mod written;
 
-pub use capture::{generated, packets_law};
+pub use capture::{generated, generated_is_read_law, packets_law};
 pub use draws::Draws;
-pub use trial::trial_rules;
+pub use trial::{trial_rules, trial_rules_law};
