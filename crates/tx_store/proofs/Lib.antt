@@ -5,3 +5,4 @@ pub mod PoolCalls
 pub mod CellCalls
 pub mod Knowing
 pub mod LogCalls
+pub mod Pairing

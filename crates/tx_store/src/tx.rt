@@ -23,14 +23,14 @@ pub struct StoreTx<'a, P: Purpose> {
 impl<'a, P: Purpose> Model for StoreTx<'a, P> {
     ghost use Rattle.std.specs.Prelude.{◌≡◌};
     ghost use Rattle.store_meaning.specs.declared.meaning.StoreMeaning.{StoreMeaning as Means};
-    ghost use Rattle.tx_store.specs.Stores.{TxView};
+    ghost use Rattle.tx_store.specs.Stores.{TxView, IsPairedAttempt};
     ghost use Rattle.tx_store.specs.Attempts.{Tells};
 
     ghost Value = { TxView (Means P P.Keys) };
 
     ghost view = { λ t. record { store = t.store.now; attempt = t.tx; keys = t.keys } };
 
-    ghost invariant = { λ t. (t.tx.table ≡ t.store.now.table) × (t.keys.directory ≡ t.store.now.directory) × Tells P.Keys.passes t.store.now.table.meaning.plan t.tx };
+    ghost invariant = { λ t. (t.tx.table ≡ t.store.now.table) × (t.keys.directory ≡ t.store.now.directory) × Tells P.Keys.passes t.store.now.table.meaning.plan t.tx × IsPairedAttempt t.tx t.keys };
 }
 
 impl<'a, P: Purpose> StoreTx<'a, P> {
@@ -96,6 +96,7 @@ impl<'a, P: Purpose> StoreTx<'a, P> {
     }
 
     /// Ends the attempt without a record. The pass is idle, has the books that it had, and has seen the attempt's version.
+    #[tactic(auto, using(crate::proofs::Pairing::paired_same))]
     pub fn abort(self) -> StorePass<P>
         ensures of { IsPassOfStore self.entry.store result }
         ensures idle { IsIdle result.pass.view }
