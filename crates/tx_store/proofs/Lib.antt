@@ -6,3 +6,4 @@ pub mod CellCalls
 pub mod Knowing
 pub mod LogCalls
 pub mod Pairing
+pub mod Parted

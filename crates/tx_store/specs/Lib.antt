@@ -2,3 +2,4 @@ pub mod Stores
 pub mod Attempts
 pub mod Calls
 pub mod Known
+pub mod Parting
