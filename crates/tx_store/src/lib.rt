@@ -11,6 +11,7 @@ mod notes;
 mod parts;
 mod pass;
 mod pools;
+mod spot;
 mod store;
 #[cfg(test)]
 mod tests;
@@ -18,6 +19,6 @@ mod tx;
 
 pub use pass::StorePass;
 pub use store::Store;
-pub use store_layout::LayoutEnd as OpenEnd;
+pub use store_layout::{LayoutEnd as OpenEnd, Spot};
 pub use store_meaning::{Anything, Purpose};
 pub use tx::StoreTx;
