@@ -3,3 +3,4 @@ pub mod Attempts
 pub mod Calls
 pub mod Known
 pub mod Parting
+pub mod Closed

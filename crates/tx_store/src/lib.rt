@@ -5,6 +5,7 @@
 #![tactic(auto)]
 
 mod cells;
+mod close;
 mod history;
 mod logs;
 mod notes;
@@ -17,6 +18,7 @@ mod store;
 mod tests;
 mod tx;
 
+pub use close::History;
 pub use pass::StorePass;
 pub use store::Store;
 pub use store_layout::{LayoutEnd as OpenEnd, Spot};
