@@ -7,3 +7,4 @@ pub mod Knowing
 pub mod LogCalls
 pub mod Pairing
 pub mod Parted
+pub mod Vouching

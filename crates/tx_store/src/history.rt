@@ -1,7 +1,10 @@
 //! What a pass of a store knows of the store's history. Each function does nothing; what it ensures is the law.
 ghost use Rattle.cell_table.specs.Pass.{IsSole};
-ghost use Rattle.tx_store.specs.Known.{KnowsHistory, KnowsWholeHistory};
-ghost use Rattle.tx_store.specs.Stores.{IsPassOfStore};
+ghost use Rattle.serial_terms.specs.Renaming.{NamedDone};
+ghost use Rattle.serial_terms.specs.Sights.{Seen};
+ghost use Rattle.store_meaning.specs.declared.meaning.StoreMeaning.{StoreMeaning};
+ghost use Rattle.tx_store.specs.Known.{KnowsHistory, KnowsWholeHistory, Vouches, Extends};
+ghost use Rattle.tx_store.specs.Stores.{PassView, IsPassOfStore};
 
 use crate::pass::StorePass;
 use crate::store::Store;
@@ -27,4 +30,13 @@ impl<P: Purpose> StorePass<P> {
     {
         whole_history_law(&self.pass, store.table.meaning());
     }
+}
+
+impl<P: Purpose> Store<P> {
+    /// What a pass vouches for, each pass vouches for that knows what it knew and has its claims. So the sight of an aborted attempt is
+    /// vouched for until the store is closed.
+    pub fn vouching_stays_law(&self)
+        ensures { (old new : PassView (StoreMeaning P P.Keys)) (seen : Seen NamedDone) → Extends old new → Vouches P.lawful_state self.now.table.meaning old seen
+            → Vouches P.lawful_state self.now.table.meaning new seen }
+    {}
 }
