@@ -10,10 +10,10 @@ use Rattle.std.proofs.lemmas.Slice.Eq.{bytes_eq-Decides}
 use Rattle.command_words.specs.Words.{number_in}
 
 -- the digits of one number are parsed as it
-pub parsed : {E : Type 0} (number : ℕ) (word : List ℕ) (r : Result ℕ E) → number < 2 ^ 32 → word ≡ decimal number → ParsesUnsigned 32 10 word r → r ≡ Ok number
-parsed number word r small is parses = parse-decimal 32 number word r small (omega (arith, small)) is parses
+pub parsed : {E : Type 0} (number : ℕ) (word : List ℕ) (r : Result ℕ E) → number < 2 ^ 64 → word ≡ decimal number → ParsesUnsigned 64 10 word r → r ≡ Ok number
+parsed number word r small is parses = parse-decimal 64 number word r small (omega (arith, small)) is parses
 
-module _ (least most number : ℕ) (word : List ℕ) (small : number < 2 ^ 32) (is : word ≡ decimal number) where
+module _ (least most number : ℕ) (word : List ℕ) (small : number < 2 ^ 64) (is : word ≡ decimal number) where
   value : digits_value 10 word ≡ number
   value = ap (digits_value 10) is ∙ (decimal_is_IsNumeral number (omega (arith, small))).1
 
@@ -43,7 +43,7 @@ module _ (least most number : ℕ) (word : List ℕ) (small : number < 2 ^ 32) (
       neither false b = refl
 
 -- a word that is no number's digits is none from the least to the most
-pub number_in_none : (least most : ℕ) (word : List ℕ) → most < 2 ^ 32 → ((number : ℕ) → number < 2 ^ 32 → word ≡ decimal number → ⊥) → None ≡ number_in least most word
+pub number_in_none : (least most : ℕ) (word : List ℕ) → most < 2 ^ 64 → ((number : ℕ) → number < 2 ^ 64 → word ≡ decimal number → ⊥) → None ≡ number_in least most word
 unfolding number_in
 number_in_none least most word fits none = sym (by_case (bytes_eq word (decimal number)) refl (nat_le least number) (nat_le number most) refl)
   where

@@ -1,11 +1,11 @@
 -- The words of the command line, and the commands that they are. Both are this project's own.
-use Rattle.std.specs.Prelude.{ℕ, Bool, ◌&&◌, not, ◌==◌, nat_le, List, [], ◌∷◌, length, take, Option, Some, None, is_none, if◌then◌else◌, codes}
+use Rattle.std.specs.Prelude.{ℕ, ◌-◌, ◌^◌, Bool, ◌&&◌, not, ◌==◌, nat_le, List, [], ◌∷◌, length, take, Option, Some, None, is_none, if◌then◌else◌, codes}
 use Rattle.std.specs.Fmt.{decimal}
 use Rattle.std.specs.Option.{option_map, option_map_or, unwrap_or}
 use Rattle.std.specs.Str.{bytes_eq}
 use Rattle.std.specs.Str.Parse.{digits_value}
 use Rattle.command_words.specs.declared.command.Command.{Command}
-use Rattle.command_words.specs.declared.command.Command.TheVariants.{Unknown, Inspect, Audit}
+use Rattle.command_words.specs.declared.command.Command.TheVariants.{Unknown, Inspect, Audit, Make}
 use Rattle.command_words.specs.declared.command.FileNames.{FileNames}
 use Rattle.command_words.specs.declared.command.Settings.{Settings}
 use Rattle.command_words.specs.declared.options.Options.{Options}
@@ -19,16 +19,18 @@ abbrev pub names_of : FileNames → Names
 names_of names = record { rules = names.rules.now; capture = names.capture.now }
 
 -- what is asked of the program: nothing that it knows, to inspect the files of these names with these
--- settings, or to judge the journal of this name
+-- settings, to judge the journal of this name, or to generate a capture from a seed with so many frames
 pub data Asked : Type 0 where
   unknown : Asked
   inspect : Names → Settings → Asked
   audit : List ℕ → Asked
+  make : ℕ → ℕ → Asked
 
 abbrev pub asked_of : Command → Asked
 asked_of Unknown = unknown
 asked_of (Inspect names settings) = inspect (names_of names) settings
 asked_of (Audit journal) = audit journal.now
+asked_of (Make making) = make making.seed making.frames
 
 -- The words of an inspection.
 
@@ -77,12 +79,24 @@ unfoldable pub audit_by : List (List ℕ) → Asked
 audit_by (journal ∷ []) = if is_name journal then audit journal else unknown
 audit_by words = unknown
 
+-- a generated capture, by the words of its seed and of its number of frames, if numbers they are
+unfoldable pub making_of : List ℕ → List ℕ → Asked
+making_of seed frames =
+    option_map_or (λ s. option_map_or (λ f. make s f) (number_in 0 262144 frames) unknown) (number_in 0 (2 ^ 64 - 1) seed) unknown
+
+-- a seed, and a number of frames
+unfoldable pub make_by : List (List ℕ) → Asked
+make_by (seed ∷ frames ∷ []) = making_of seed frames
+make_by words = unknown
+
 -- what the words behind the program's own name ask for, where they are one of these:
 --     inspect [--window N] RULES CAPTURE
 --     audit JOURNAL
+--     make SEED FRAMES
 unfoldable pub asked_by : List (List ℕ) → Asked
 asked_by [] = unknown
 asked_by (command ∷ words) =
     if bytes_eq command (codes "inspect") then inspection_by no_options words
     else if bytes_eq command (codes "audit") then audit_by words
+    else if bytes_eq command (codes "make") then make_by words
     else unknown

@@ -1,14 +1,18 @@
 // The commands, and the words that they are written by.
 ghost use Rattle.std.specs.Prelude.{◌≡◌, map, string_bytes};
-ghost use Rattle.command_words.specs.Words.{is_name, inspection_of, inspection_by, settings_by, audit_by, asked_by, asked_of};
+ghost use Rattle.command_words.specs.Words.{is_name, inspection_of, inspection_by, settings_by, audit_by, make_by, making_of, asked_by, asked_of};
 
-use crate::options::Options;
+use crate::making::Making;
+use crate::options::{Options, number_in};
 
 /// The most findings that an inspection has where the words don't say it.
 const USUAL_FINDINGS: u32 = 65_536;
 
 /// The window in seconds where the words don't say it.
 const USUAL_WINDOW: u32 = 30;
+
+/// The most frames that a generated capture has.
+const MAX_FRAMES: u64 = 262_144;
 
 /// The names of the files that an inspection reads.
 #[derive(Clone, Copy, Debug)]
@@ -40,6 +44,8 @@ pub enum Command<'a> {
     Audit {
         journal: &'a str,
     },
+    /// Generate a capture, and write it.
+    Make(Making),
 }
 
 #[tactic(auto, unfolding(crate::specs::Words::is_name))]
@@ -103,9 +109,37 @@ fn audit_by(words: &[String]) -> Command<'_>
     }
 }
 
-/// What the words behind the program's own name ask for: `inspect [--window N] RULES CAPTURE` or
-/// `audit JOURNAL`, with names that aren't empty and don't begin with two dashes. All other words are
-/// `Unknown`.
+// A generated capture, by the words of its seed and of its number of frames, if numbers they are.
+#[tactic(auto, unfolding(crate::specs::Words::making_of))]
+fn making_of(seed: &str, frames: &str) -> Command<'static>
+    ensures { asked_of result ≡ making_of seed.now frames.now }
+{
+    let Some(seed) = number_in(seed, 0, u64::MAX) else {
+        return Command::Unknown;
+    };
+    let Some(frames) = number_in(frames, 0, MAX_FRAMES) else {
+        return Command::Unknown;
+    };
+    Command::Make(Making {
+        seed,
+        frames: frames as u32,
+    })
+}
+
+// What these words behind `make` ask for: a seed, and a number of frames.
+#[tactic(auto, unfolding(crate::specs::Words::make_by))]
+fn make_by(words: &[String]) -> Command<'_>
+    ensures { asked_of result ≡ make_by (map (λ w. string_bytes w) words.now) }
+{
+    match words {
+        [seed, frames] => making_of(seed.as_str(), frames.as_str()),
+        _ => Command::Unknown,
+    }
+}
+
+/// What the words behind the program's own name ask for: `inspect [--window N] RULES CAPTURE`,
+/// `audit JOURNAL`, or `make SEED FRAMES`, with names that aren't empty and don't begin with two dashes.
+/// All other words are `Unknown`.
 #[tactic(auto, unfolding(crate::specs::Words::asked_by))]
 pub fn command_of(words: &[String]) -> Command<'_>
     ensures { asked_of result ≡ asked_by (map (λ w. string_bytes w) words.now) }
@@ -115,6 +149,7 @@ pub fn command_of(words: &[String]) -> Command<'_>
             inspection_by(Options { window: None }, rest)
         }
         [command, rest @ ..] if command.as_str() == "audit" => audit_by(rest),
+        [command, rest @ ..] if command.as_str() == "make" => make_by(rest),
         _ => Command::Unknown,
     }
 }

@@ -2,8 +2,10 @@
 #![tactic(auto)]
 
 mod command;
+mod making;
 mod options;
 #[cfg(test)]
 mod tests;
 
 pub use command::{Command, FileNames, Settings, command_of};
+pub use making::Making;

@@ -1,5 +1,5 @@
 // The options of an inspection.
-ghost use Rattle.std.specs.Prelude.{◌≡◌, ℕ, ◌<◌, ◌^◌, None, IfSome};
+ghost use Rattle.std.specs.Prelude.{◌≡◌, ℕ, ◌<◌, ◌≤◌, ◌^◌, None, IfSome};
 ghost use Rattle.std.specs.Fmt.{decimal};
 ghost use Rattle.command_words.specs.Words.{number_in, with_option};
 
@@ -12,12 +12,12 @@ pub struct Options {
     pub window: Option<u32>,
 }
 
-// The number whose decimal digits the word is, if it is one below 2^32.
-fn written(word: &str) -> Option<u32>
-    ensures number { IfSome result (λ number. (number < 2 ^ 32) × (word.now ≡ decimal number)) }
-    ensures none { result ≡ None → (number : ℕ) → number < 2 ^ 32 → word.now ≡ decimal number → ⊥ }
+// The number whose decimal digits the word is, if it is one below 2^64.
+fn written(word: &str) -> Option<u64>
+    ensures number { IfSome result (λ number. (number < 2 ^ 64) × (word.now ≡ decimal number)) }
+    ensures none { result ≡ None → (number : ℕ) → number < 2 ^ 64 → word.now ≡ decimal number → ⊥ }
 {
-    let Ok(number) = word.parse::<u32>() else {
+    let Ok(number) = word.parse::<u64>() else {
         return None;
     };
     let mut buffer = Buffer::new();
@@ -28,10 +28,11 @@ fn written(word: &str) -> Option<u32>
     }
 }
 
-// The number that a word writes in decimal digits, without a sign or a zero in front, if it is from
-// `least` up to `most`.
-fn number_in(word: &str, least: u32, most: u32) -> Option<u32>
-    ensures { result ≡ number_in least most word.now }
+/// The number that a word writes in decimal digits, without a sign or a zero in front, if it is from
+/// `least` up to `most`.
+pub(crate) fn number_in(word: &str, least: u64, most: u64) -> Option<u64>
+    ensures number { result ≡ number_in least most word.now }
+    ensures most { IfSome result (λ number. number ≤ most) }
 {
     let number = written(word)?;
     if least <= number && number <= most {
@@ -51,7 +52,7 @@ impl Options {
         if word == "--window" && self.window.is_none() {
             let window = number_in(value, 1, 86_400)?;
             Some(Options {
-                window: Some(window),
+                window: Some(window as u32),
             })
         } else {
             None

@@ -79,8 +79,47 @@ fn an_audit_is_read_from_its_words(rt: HostRuntime) -> Result<(), Fail> {
 }
 
 #[test]
+fn a_capture_to_make_is_read_from_its_words(rt: HostRuntime) -> Result<(), Fail> {
+    let lists: [(&str, &str, u64, u32); 3] = [
+        ("9", "0", 9, 0),
+        ("0", "262144", 0, 262_144),
+        (
+            "18446744073709551615",
+            "20000",
+            18_446_744_073_709_551_615,
+            20_000,
+        ),
+    ];
+    for (seed_word, frames_word, want_seed, want_frames) in lists {
+        let words = list(rt.alloc(), &["make", seed_word, frames_word])?;
+        let Command::Make(making) = command_of(&words) else {
+            assert!(rt; false, "a capture to make");
+            return Ok(());
+        };
+        assert_eq!(rt; making.seed, want_seed);
+        assert_eq!(rt; making.frames, want_frames);
+    }
+    let others: [&[&str]; 9] = [
+        &["make"],
+        &["make", "9"],
+        &["make", "9", "0", "0"],
+        &["make", "18446744073709551616", "0"],
+        &["make", "09", "0"],
+        &["make", "9", "262145"],
+        &["make", "9", "+1"],
+        &["make", "--workers", "4"],
+        &["Make", "9", "0"],
+    ];
+    for words in others {
+        let words = list(rt.alloc(), words)?;
+        assert!(rt; matches!(command_of(&words), Command::Unknown));
+    }
+    Ok(())
+}
+
+#[test]
 fn other_words_are_unknown(rt: HostRuntime) -> Result<(), Fail> {
-    let lists: [&[&str]; 22] = [
+    let lists: [&[&str]; 21] = [
         &[],
         &["inspect"],
         &["inspect", "r"],
@@ -94,7 +133,6 @@ fn other_words_are_unknown(rt: HostRuntime) -> Result<(), Fail> {
         &["inspect", "--workers=4", "r", "c"],
         &["Inspect", "r", "c"],
         &["journal", "r", "c"],
-        &["make", "9", "0"],
         &["audit"],
         &["audit", ""],
         &["audit", "--j"],

@@ -133,4 +133,5 @@ module _ (law : FirstBadLines) where
         audit_of = λ other are.
             let same : name ≡ other = cc in
             subst (λ (n : List ℕ). Audited run (source run.content run.before run.after n)) same (audited run here ending is ends tells);
+        making = λ seed frames are. absurd (cc (asked, are));
       }

@@ -8,3 +8,4 @@ pub mod IncompleteGroups
 pub mod FindingSteps
 pub mod Ran
 pub mod Audited
+pub mod Made

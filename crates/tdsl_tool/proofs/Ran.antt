@@ -248,4 +248,5 @@ ran_inspection one one_file some words run names settings ending asked is ends t
           (subst (λ (m : Settings). Inspected run (reading run.content run.before run.after names m)) settings_same
           (inspected one one_file some run here ending is ends tells));
       audit_of = λ name are. absurd (cc (asked, are));
+      making = λ seed frames are. absurd (cc (asked, are));
     }

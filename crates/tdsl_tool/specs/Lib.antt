@@ -4,3 +4,4 @@ pub mod Verdict
 pub mod Run
 pub mod Audit
 pub mod Commands
+pub mod Making

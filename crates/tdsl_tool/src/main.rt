@@ -1,5 +1,6 @@
 //! Inspects captures of packets: `inspect [--window N] RULES CAPTURE` writes a report of what the rules
-//! find. Judges journals: `audit JOURNAL` tells whether a legal run may have written it.
+//! find. Judges journals: `audit JOURNAL` tells whether a legal run may have written it. Makes captures:
+//! `make SEED FRAMES` writes one that is generated from a seed.
 #![tactic(auto)]
 
 #[cfg(test)]
@@ -13,6 +14,8 @@ mod findings;
 mod hostile_tests;
 mod inspection;
 mod laws;
+#[cfg(test)]
+mod making_tests;
 mod members;
 mod run;
 #[cfg(test)]

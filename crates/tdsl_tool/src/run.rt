@@ -6,12 +6,14 @@ ghost use Rattle.report.specs.Fault.{cause_of, status_of};
 ghost use Rattle.tdsl_tool.specs.Verdict.{reports, max_file, AreRules};
 ghost use Rattle.tdsl_tool.specs.Run.{source, reading, writing, ComesTo, StopsReading, StopsAtRules, StopsAt, EndsSo, ending_of, ending_status, Tells, TellsLine};
 ghost use Rattle.tdsl_tool.specs.Audit.{IsAuditOf, StopsAtJournal, AuditEndsSo};
+ghost use Rattle.tdsl_tool.specs.Making.{MakeEndsSo};
 ghost use Rattle.tdsl_tool.specs.Commands.{Ran};
 
 use crate::inspection::report_under;
 use crate::laws::{one_verdict, some_answer_of};
 use byte_ends::{Files, ReadEnd, Sink, read_all, write_all};
-use command_words::{Command, FileNames, Settings, command_of};
+use capture_generator::generated;
+use command_words::{Command, FileNames, Making, Settings, command_of};
 use history_audit::{Verdict, audit};
 use journal_terms::first_bad_lines_law;
 use report::{Fault, audit_text, write_fault};
@@ -151,6 +153,20 @@ fn judge<'a, F: Files, O: Sink>(
     Ok(())
 }
 
+// Generates a capture, and writes it.
+fn make<O: Sink>(alloc: Global, out: &mut O, making: Making) -> Result<(), Fault<'static>>
+    ensures ends { MakeEndsSo making.seed making.frames (writing (O.written out.old) (O.written out.new) (O.faults out.old) (O.faults out.new)) (ending_of result) }
+    ensures counts_out { O.faults out.old ≤ O.faults out.new }
+{
+    let Ok(bytes) = generated(alloc, making.seed, making.frames) else {
+        return Err(Fault::Memory);
+    };
+    if write_all(out, &bytes).is_err() {
+        return Err(Fault::Write);
+    }
+    Ok(())
+}
+
 /// Writes the line of a fault, and answers its status. Whether the line is written whole changes no
 /// status.
 pub fn tell<E: Sink>(faults: &mut E, fault: &Fault<'_>) -> u8
@@ -180,8 +196,9 @@ fn finish<E: Sink>(faults: &mut E, ended: Result<(), Fault<'_>>) -> u8
 /// `inspect [--window N] RULES CAPTURE` reads the two files and writes the report to `out`. The steps are
 /// taken in order: the words, the rule file, its text, the capture file, its format, the findings, writing.
 /// `audit JOURNAL` reads the journal and writes how many records and sights it has, where it is legal; its
-/// steps are the words, the journal, its judgement, writing. Every other list of words is a fault of usage.
-/// The first step that fails decides the status, and a line about it goes to `faults`.
+/// steps are the words, the journal, its judgement, writing. `make SEED FRAMES` writes a capture that is
+/// generated from the seed; it reads no file, and ends with 0, 3 or 7. Every other list of words is a fault
+/// of usage. The first step that fails decides the status, and a line about it goes to `faults`.
 pub fn run_with<Rt, F: Files, O: Sink, E: Sink>(
     rt: &Rt,
     alloc: Global,
@@ -219,6 +236,10 @@ pub fn run_with<Rt, F: Files, O: Sink, E: Sink>(
         Command::Audit { journal } => {
             let judged = judge(alloc, files, out, journal);
             finish(faults, judged)
+        }
+        Command::Make(making) => {
+            let made = make(alloc, out, making);
+            finish(faults, made)
         }
     }
 }
