@@ -4,8 +4,10 @@
 #![tactic(auto)]
 
 mod datagrams;
+mod slots;
 #[cfg(test)]
 mod tests;
 mod values;
 
 pub use datagrams::{group_values, whole_values};
+pub use slots::{Slot, find_ahead};

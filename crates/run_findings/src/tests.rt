@@ -6,7 +6,7 @@ ghost use Rattle.rule_terms.specs.Rule.{Rule};
 ghost use Rattle.run_findings.specs.Datagrams.{AreAllTasks};
 ghost use Rattle.run_stages.specs.FromCapture.{work_of};
 
-use crate::{group_values, whole_values};
+use crate::{find_ahead, group_values, whole_values};
 use capture_terms::{Capture, Plan, Task};
 use ipv4_fragments::classify;
 use pcap_frames::frames;
@@ -68,6 +68,20 @@ fn a_whole_datagram_has_the_place_of_its_finding(rt: HostRuntime) -> Result<(), 
     let two = two_rules(&rt, alloc);
     assert_eq!(rt; plan.tasks.len(), 1);
     let values = values_of_first(alloc, &plan, WHOLE, &two)?;
+    assert_eq!(rt; values.as_slice(), [2].as_slice());
+    Ok(())
+}
+
+#[test]
+fn what_is_found_ahead_by_two_threads_is_what_is_found_alone(rt: HostRuntime) -> Result<(), Fail> {
+    let alloc = rt.alloc();
+    let plan = plan_of(&rt, alloc, WHOLE)?;
+    let two = two_rules(&rt, alloc);
+    assert_eq!(rt; plan.tasks.len(), 1);
+    let slots = find_ahead(&rt, alloc, &plan, WHOLE, &two, 0, 1, 2)?;
+    let slot = slots.first().expect(&rt, "there is one slot");
+    assert_eq!(rt; slot.number, 0);
+    let values = slot.values.as_ref().expect(&rt, "memory suffices");
     assert_eq!(rt; values.as_slice(), [2].as_slice());
     Ok(())
 }
