@@ -8,3 +8,6 @@ pub mod LogCalls
 pub mod Pairing
 pub mod Parted
 pub mod Vouching
+pub mod QueueCalls
+pub mod MapCalls
+pub mod KeyPairing

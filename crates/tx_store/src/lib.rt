@@ -8,10 +8,12 @@ mod cells;
 mod close;
 mod history;
 mod logs;
+mod maps;
 mod notes;
 mod parts;
 mod pass;
 mod pools;
+mod queues;
 mod spot;
 mod store;
 #[cfg(test)]
@@ -24,3 +26,4 @@ pub use store::Store;
 pub use store_layout::{LayoutEnd as OpenEnd, Spot};
 pub use store_meaning::{Anything, Purpose};
 pub use tx::StoreTx;
+pub use tx_map::MapStop;

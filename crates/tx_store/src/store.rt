@@ -79,6 +79,7 @@ impl<P: Purpose> Store<P> {
         ensures plan { result.now ≡ self.now.table.meaning.plan }
         ensures sized { length self.now.table.opening ≡ cells_of result.now }
         ensures slots { All (λ n. 0 < n) result.now.pools }
+        ensures regions { self.now.directory.capacities ≡ result.now.maps }
     {
         &self.table.meaning().plan
     }
