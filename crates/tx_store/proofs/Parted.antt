@@ -1,5 +1,5 @@
 -- A pass of a store that is split, and one that is joined with another.
-use Rattle.std.proofs.Common.{◌≡◌, ℕ, zero, suc, ◌+◌, ◌-◌, ◌<◌, ltb, cond, true, false, Bool, List, [], ◌∷◌, ◌++◌, length, take, drop, ap, sym, ◌∙◌, subst, arith}
+use Rattle.std.proofs.Common.{refl, ◌≡◌, ℕ, zero, suc, ◌+◌, ◌-◌, ◌<◌, ltb, cond, true, false, Bool, List, [], ◌∷◌, ◌++◌, length, take, drop, ap, sym, ◌∙◌, subst, arith}
 use Rattle.std.specs.Prelude.{Contains}
 use Rattle.std.proofs.lemmas.List.{length-take-le, length-drop}
 use Rattle.std.proofs.lemmas.List.Elements.{Contains-append_left, Contains-append_right}
@@ -50,10 +50,10 @@ same_claims a b same c has = subst (λ (z : List Claim). Contains z c) (sym same
 module _ {M : Type 0} where
   -- ---- a split
 
-  pub kept_part : (store : StoreView M) (old new : PassView M) (n : ℕ) → IsPassOfStore store old → n < length old.pass.books → IsPassOf store.table new.pass → new.pass ≡ split_kept old.pass n
+  pub kept_part : (store : StoreView M) (old new : PassView M) (n : ℕ) → IsPassOfStore store old → n < length old.pass.books → IsIdle old.pass.view → IsPassOf store.table new.pass → new.pass ≡ split_kept old.pass n
       → new.keys.directory ≡ old.keys.directory → new.keys.callers ≡ old.keys.callers - n → new.keys.room ≡ old.keys.room → new.keys.claims ≡ old.keys.claims → Grows old.pass.view new.pass.view
       → IsPassOfStore store new × IsKeptPart old new n
-  kept_part store old new n of less cells pass directory callers room claims grows =
+  kept_part store old new n of less idle cells pass directory callers room claims grows =
       let books = ap (λ (p : PassState M NamedDone). p.books) pass in let count = length-take-le (length old.pass.books - n) old.pass.books (omega arith) in let size = ap length books in
       let counted = of.paired.callers in let both = same_claims old.keys.claims new.keys.claims claims in (
         record {
@@ -67,7 +67,14 @@ module _ {M : Type 0} where
                 (each_take (λ b. Each (λ e. AreClaimed old.keys.claims e.content.dones) b.entries) (length old.pass.books - n) old.pass.books of.paired.claimed));
           };
         },
-        record { pass = pass; claims = claims; extends = record { view = grows; claims = both } },
+        record {
+          pass = pass;
+          callers = omega arith;
+          room = ap (λ (p : PassState M NamedDone). p.room) pass;
+          idle = subst (λ (p : PassState M NamedDone). IsIdle p.view) (sym pass) idle;
+          claims = claims;
+          extends = record { view = grows; claims = both };
+        },
       )
 
   pub new_part : (store : StoreView M) (old new : PassView M) (n : ℕ) → IsPassOfStore store old → n < length old.pass.books → IsPassOf store.table new.pass
@@ -88,7 +95,14 @@ module _ {M : Type 0} where
                 (each_drop (λ b. Each (λ e. AreClaimed old.keys.claims e.content.dones) b.entries) (length old.pass.books - n) old.pass.books of.paired.claimed));
           };
         },
-        record { pass = pass; claims = claims; extends = record { view = grows; claims = both } },
+        record {
+          pass = pass;
+          callers = omega arith;
+          room = ap (λ (p : PassState M NamedDone). p.room) pass;
+          idle = subst (λ (p : PassState M NamedDone). IsIdle p.view) (sym pass) (refl, refl);
+          claims = claims;
+          extends = record { view = grows; claims = both };
+        },
       )
 
   -- ---- a join
@@ -115,6 +129,7 @@ module _ {M : Type 0} where
         record {
           pass = (place, pass);
           callers = counted;
+          room = ap (λ (p : PassState M NamedDone). p.room) pass;
           idle = subst (λ (p : PassState M NamedDone). IsIdle p.view) (sym pass) idle;
           extends = record { view = grows; claims = left };
           other = record { view = more; claims = right };
@@ -127,12 +142,12 @@ module _ {M : Type 0} (inner store : StoreView M) (same : inner ≡ store) where
   at_inner : (in_pass p : PassView M) → in_pass ≡ p → IsPassOfStore store p → IsPassOfStore inner in_pass
   at_inner in_pass p is of = subst (λ (z : StoreView M). IsPassOfStore z in_pass) (sym same) (subst (IsPassOfStore store) (sym is) of)
 
-  pub kept_seen : (in_old old new : PassView M) (n : ℕ) → in_old ≡ old → IsPassOfStore store old → n < length old.pass.books → IsPassOf inner.table new.pass → new.pass ≡ split_kept in_old.pass n
+  pub kept_seen : (in_old old new : PassView M) (n : ℕ) → in_old ≡ old → IsPassOfStore store old → n < length old.pass.books → IsIdle old.pass.view → IsPassOf inner.table new.pass → new.pass ≡ split_kept in_old.pass n
       → new.keys.directory ≡ in_old.keys.directory → new.keys.callers ≡ in_old.keys.callers - n → new.keys.room ≡ in_old.keys.room → new.keys.claims ≡ in_old.keys.claims
       → Grows in_old.pass.view new.pass.view → IsPassOfStore store new × IsKeptPart old new n
-  kept_seen in_old old new n is of less cells pass directory callers room claims grows =
+  kept_seen in_old old new n is of less idle cells pass directory callers room claims grows =
       subst (λ (z : StoreView M). IsPassOfStore z new × IsKeptPart old new n) same (subst (λ (z : PassView M). IsPassOfStore inner new × IsKeptPart z new n) is
-      (kept_part inner in_old new n (at_inner in_old old is of) (subst (λ (z : PassView M). n < length z.pass.books) (sym is) less) cells pass directory callers room claims grows))
+      (kept_part inner in_old new n (at_inner in_old old is of) (subst (λ (z : PassView M). n < length z.pass.books) (sym is) less) (subst (λ (z : PassView M). IsIdle z.pass.view) (sym is) idle) cells pass directory callers room claims grows))
 
   pub new_seen : (in_old old new : PassView M) (n : ℕ) → in_old ≡ old → IsPassOfStore store old → n < length old.pass.books → IsPassOf inner.table new.pass
       → new.pass ≡ split_new in_old.pass n new.pass.reserved → new.keys.directory ≡ in_old.keys.directory → new.keys.callers ≡ n → new.keys.room ≡ n → new.keys.claims ≡ in_old.keys.claims
