@@ -11,3 +11,4 @@ pub mod Vouching
 pub mod QueueCalls
 pub mod MapCalls
 pub mod KeyPairing
+pub mod Nesting

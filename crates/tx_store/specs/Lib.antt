@@ -5,3 +5,6 @@ pub mod MapCalls
 pub mod Known
 pub mod Parting
 pub mod Closed
+pub mod Children
+pub mod ChildLaws
+pub mod Sights

@@ -5,6 +5,7 @@
 #![tactic(auto)]
 
 mod cells;
+mod child;
 mod close;
 mod history;
 mod logs;
