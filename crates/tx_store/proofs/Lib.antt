@@ -12,3 +12,4 @@ pub mod QueueCalls
 pub mod MapCalls
 pub mod KeyPairing
 pub mod Nesting
+pub mod OpenSees

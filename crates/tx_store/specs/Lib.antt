@@ -8,3 +8,4 @@ pub mod Closed
 pub mod Children
 pub mod ChildLaws
 pub mod Sights
+pub mod Sees

@@ -11,6 +11,7 @@ mod history;
 mod logs;
 mod maps;
 mod notes;
+mod open;
 mod parts;
 mod pass;
 mod pools;
