@@ -13,3 +13,9 @@ pub mod MapCalls
 pub mod KeyPairing
 pub mod Nesting
 pub mod OpenSees
+pub mod Resolving
+pub mod PartResolving
+pub mod Fitting
+pub mod Committing
+pub mod Refusing
+pub mod Seeing

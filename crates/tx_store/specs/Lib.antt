@@ -9,3 +9,5 @@ pub mod Children
 pub mod ChildLaws
 pub mod Sights
 pub mod Sees
+pub mod Resolves
+pub mod Commits

@@ -7,6 +7,7 @@
 mod cells;
 mod child;
 mod close;
+mod commit;
 mod history;
 mod logs;
 mod maps;
@@ -16,6 +17,7 @@ mod parts;
 mod pass;
 mod pools;
 mod queues;
+mod resolve;
 mod spot;
 mod store;
 #[cfg(test)]
@@ -23,6 +25,7 @@ mod tests;
 mod tx;
 
 pub use close::History;
+pub use commit::{CommitEnd, Receipt};
 pub use pass::StorePass;
 pub use store::Store;
 pub use store_layout::{LayoutEnd as OpenEnd, Spot};

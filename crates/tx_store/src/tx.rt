@@ -37,6 +37,9 @@ impl<'a, P: Purpose> StoreTx<'a, P> {
     ghost use Rattle.cell_table.specs.declared.view.Event.TheVariants.{ClockLoaded};
     ghost use Rattle.cell_table.specs.Steps.{IsIdle, Grows, clocked};
     ghost use Rattle.cell_table.specs.Pass.{trail_of};
+    ghost use Rattle.serial_terms.specs.declared.sight.SightEnd.TheVariants.{Aborted};
+    ghost use Rattle.tx_core.specs.Causes.{GrewBy};
+    ghost use Rattle.tx_store.specs.Commits.{SeesCalls};
     ghost use Rattle.tx_core.specs.Calls.{MayCall, NothingWaits, stop_in, memory_in};
     ghost use Rattle.tx_core.specs.declared.stop.TxState.TheVariants.{Running};
     ghost use Rattle.serial_terms.specs.Serial.{found};
@@ -63,6 +66,7 @@ impl<'a, P: Purpose> StoreTx<'a, P> {
         ensures fresh { IfOk result (λ t. (t.attempt.state ≡ Running) × (t.attempt.observations ≡ []) × (t.attempt.writes ≡ []) × (t.attempt.notes ≡ []) × NothingWaits t.attempt × (t.attempt.committing ≡ false)) }
         ensures pass { IfOk result (λ t. t.attempt.pass ≡ record pass.pass { view = clocked pass.pass.view t.attempt.version; reserved = t.attempt.pass.reserved }) }
         ensures version { IfOk result (λ t. (trail_of t.attempt.pass ≡ trail_of pass.pass ++ ClockLoaded t.attempt.version ∷ []) × (pass.pass.seen ≤ t.attempt.version)) }
+        ensures grows { IfOk result (λ t. Grows pass.pass.view t.attempt.pass.view) }
         ensures refused { IfErr result (λ back. back.0 ≡ pass) }
     {
         attempts_follow_law();
@@ -105,8 +109,15 @@ impl<'a, P: Purpose> StoreTx<'a, P> {
         ensures pass { (result.pass.room ≡ self.entry.attempt.pass.room) × (result.pass.view.draws ≡ self.entry.attempt.pass.view.draws) }
         ensures keys { result.keys ≡ self.entry.keys }
         ensures grows { Grows self.entry.attempt.pass.view result.pass.view }
+        ensures steps { GrewBy (length self.entry.attempt.pass.view.held) (trail_of self.entry.attempt.pass) (trail_of result.pass) }
+
+        // It vouches for it that the calls were seen at the attempt's version.
+        ensures sees { SeesCalls P.lawful_state self.entry result self.entry.attempt.version Aborted }
     {
+        self.tells_law();
         let StoreTx { store: _, tx, keys } = self;
+        tx.vouched_law();
+        tx.pass_law();
         StorePass {
             pass: tx.abort(),
             keys,
