@@ -19,3 +19,5 @@ pub mod Fitting
 pub mod Committing
 pub mod Refusing
 pub mod Seeing
+pub mod Running
+pub mod Trying

@@ -11,3 +11,6 @@ pub mod Sights
 pub mod Sees
 pub mod Resolves
 pub mod Commits
+pub mod Runs
+pub mod Bodies
+pub mod BodyFacts

@@ -18,6 +18,7 @@ mod pass;
 mod pools;
 mod queues;
 mod resolve;
+mod run;
 mod spot;
 mod store;
 #[cfg(test)]
@@ -27,6 +28,7 @@ mod tx;
 pub use close::History;
 pub use commit::{CommitEnd, Receipt};
 pub use pass::StorePass;
+pub use run::{Body, BodyStop, RunEnd, atomically};
 pub use store::Store;
 pub use store_layout::{LayoutEnd as OpenEnd, Spot};
 pub use store_meaning::{Anything, Purpose};

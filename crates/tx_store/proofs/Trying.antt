@@ -1,0 +1,44 @@
+-- Attempts one after another.
+use Rattle.std.proofs.Common.{ℕ, ◌+◌, ◌≤◌, sym, ◌∙◌, arith}
+use Rattle.cell_table.specs.Pass.{IsSole}
+use Rattle.serial_terms.specs.declared.call.Done.{Done}
+use Rattle.serial_terms.specs.Renaming.{NamedDone}
+use Rattle.std.specs.Prelude.{List}
+use Rattle.serial_terms.specs.Sights.{Seen}
+use Rattle.tx_core.specs.Facts.{grows_trans}
+use Rattle.tx_store.specs.declared.run.RunEnd.{RunEnd}
+use Rattle.tx_store.specs.declared.run.RunEnd.TheVariants as run_ends
+use Rattle.tx_store.specs.ChildLaws.{keys_then}
+use Rattle.tx_nest.specs.AttemptLaws.{grew_trans}
+use Rattle.tx_store.specs.Runs.{IsLeft, AfterFewer, IsLastEnd, IsRefusedRun, IsCommittedRun}
+use Rattle.tx_store.specs.Stores.{StoreView, PassView}
+
+module _ {M : Type 0} where
+  pub left_then : (store : StoreView M) (n m k : ℕ) (p q r : PassView M) → n + m ≤ k → IsLeft store n p q → IsLeft store m q r → IsLeft store k p r
+  left_then store n m k p q r low a b =
+      let c = a.draws in let d = b.draws in
+      let e = a.seen in let f = b.seen in
+      record {
+        of = b.of;
+        idle = b.idle;
+        callers = b.callers ∙ a.callers;
+        room = b.room ∙ a.room;
+        draws = omega arith;
+        seen = omega arith;
+        trail = grew_trans _ _ _ a.trail b.trail;
+        grows = grows_trans _ _ _ a.grows b.grows;
+        keys = keys_then p.keys q.keys r.keys a.keys b.keys;
+      }
+
+  pub alone_left : (store : StoreView M) (n : ℕ) (p q : PassView M) → IsLeft store n p q → IsSole p.pass → IsSole q.pass
+  alone_left store n p q left alone = left.callers ∙ (alone ∙ sym left.grows.total)
+
+  pub ran_by : {O : Type 0} (allows : List Done → Type 0) (runs earlier : List Done → O → Type 0) (p q : PassView M) (out : O) → ((calls : List Done) → runs calls out → earlier calls out)
+      → IsCommittedRun allows runs p q out → IsCommittedRun allows earlier p q out
+  ran_by allows runs earlier p q out same is = record { writer = is.writer; content = is.content; books = is.books; allowed = is.allowed; ran = same _ is.ran }
+
+  pub refused_as : (Saw : PassView M → Seen NamedDone → Type 0) (tries : ℕ) (p q : PassView M) (end : RunEnd) → AfterFewer Saw tries p (λ r. IsLastEnd Saw r q end) → IsRefusedRun Saw tries p q end
+  refused_as Saw tries p q (run_ends.Spent n last) is = absurd is.ends
+  refused_as Saw tries p q (run_ends.Full part values adding) is = is
+  refused_as Saw tries p q (run_ends.KeysFull map capacity) is = is
+  refused_as Saw tries p q run_ends.Memory is = is

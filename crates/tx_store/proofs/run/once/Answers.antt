@@ -1,0 +1,41 @@
+use Rattle.std.proofs.Common.{◌∙◌, arith}
+use Rattle.serial_terms.specs.declared.sight.SightEnd.TheVariants.{Aborted}
+use Rattle.tx_store.specs.Known.{Vouches}
+use Rattle.tx_store.proofs.Running.{begins, ends_aborted, ends_committed, ends_refused, left, refused, stopped, at_store}
+use Rattle.tx_store.proofs.run.once.Goals as goal
+
+pub returns-in-Ok-commit-clause-left : goal.returns-in-Ok-commit-clause-left
+returns-in-Ok-commit-clause-left g c =
+    let begun = begins c.args.store.now c.args.pass c.in-Ok.tx c.in-Ok.ensures.store c.in-Ok.ensures.pass c.in-Ok.ensures.version c.in-Ok.ensures.grows in
+    left c.args.store.now c.args.pass c.in-Ok.tx c.body.new.tx c.in-Ok-commit.done.0 begun c.body.ensures.same (ends_committed c.body.new.tx c.in-Ok-commit.done.0 c.in-Ok-commit.done.1 c.in-Ok-commit.ensures.committed)
+
+pub returns-in-Err-commit-clause-refused : goal.returns-in-Err-commit-clause-refused
+returns-in-Err-commit-clause-refused g c =
+    let begun = begins c.args.store.now c.args.pass c.in-Ok.tx c.in-Ok.ensures.store c.in-Ok.ensures.pass c.in-Ok.ensures.version c.in-Ok.ensures.grows in
+    let is = c.in-Err-commit.ensures.refused in (
+      is.refuses.books ∙ (c.body.ensures.same.books ∙ begun.books),
+      rw c.after_refusal.ensures (refused g.P.Purpose.lawful_state c.args.store.now c.args.pass c.in-Ok.tx c.body.new.tx c.in-Err-commit.refused.0 begun c.body.ensures.same c.in-Err-commit.refused.1 is),
+    )
+
+pub returns-in-Err-commit-clause-left_refused : goal.returns-in-Err-commit-clause-left_refused
+returns-in-Err-commit-clause-left_refused g c =
+    let begun = begins c.args.store.now c.args.pass c.in-Ok.tx c.in-Ok.ensures.store c.in-Ok.ensures.pass c.in-Ok.ensures.version c.in-Ok.ensures.grows in
+    left c.args.store.now c.args.pass c.in-Ok.tx c.body.new.tx c.in-Err-commit.refused.0 begun c.body.ensures.same (ends_refused g.P.Purpose.lawful_state c.body.new.tx c.in-Err-commit.refused.0 c.in-Err-commit.refused.1 c.in-Err-commit.ensures.refused)
+
+pub returns-in-Err-body-clause-refused : goal.returns-in-Err-body-clause-refused
+returns-in-Err-body-clause-refused g c =
+    let begun = begins c.args.store.now c.args.pass c.in-Ok.tx c.in-Ok.ensures.store c.in-Ok.ensures.pass c.in-Ok.ensures.version c.in-Ok.ensures.grows in
+    let same = c.body.ensures.same in
+    let gone = c.abort.ensures in
+    let ended = ends_aborted c.body.new.tx c.abort.result _ gone.of gone.keys gone.idle gone.seen gone.books gone.pass gone.grows gone.steps in (
+      gone.books ∙ (same.books ∙ begun.books),
+      rw c.after_stop.ensures (stopped c.args.store.now c.args.pass c.in-Ok.tx c.body.new.tx c.abort.result begun same ended (Vouches g.P.Purpose.lawful_state c.args.store.now.table.meaning)
+          (record { caller = 0; after = 0; place = c.body.new.tx.attempt.version; end = Aborted; dones = c.body.new.tx.attempt.notes }) (omega arith)
+          (at_store g.P.Purpose.lawful_state c.args.store.now c.body.new.tx.store c.abort.result _ (same.store ∙ begun.store) (gone.sees 0 0)) c.in-Err-body.stop c.in-Err-body.ensures.stopped),
+    )
+
+pub returns-in-Err-body-clause-left_refused : goal.returns-in-Err-body-clause-left_refused
+returns-in-Err-body-clause-left_refused g c =
+    let begun = begins c.args.store.now c.args.pass c.in-Ok.tx c.in-Ok.ensures.store c.in-Ok.ensures.pass c.in-Ok.ensures.version c.in-Ok.ensures.grows in
+    let gone = c.abort.ensures in
+    left c.args.store.now c.args.pass c.in-Ok.tx c.body.new.tx c.abort.result begun c.body.ensures.same (ends_aborted c.body.new.tx c.abort.result _ gone.of gone.keys gone.idle gone.seen gone.books gone.pass gone.grows gone.steps)

@@ -1,0 +1,166 @@
+-- Calls of a body one after another.
+use Rattle.std.proofs.Common.{◌≡◌, ℕ, ◌≤◌, List, [], ◌∷◌, ◌++◌, length, length-append, append_assoc, sym, refl, ap, ◌∙◌, subst, arith}
+use Rattle.std.proofs.lemmas.List.{append-nil}
+use Rattle.std.specs.Prelude.{Result, Ok, Err, None, Some, Option, false}
+use Rattle.cell_table.specs.declared.view.Event.{Event}
+use Rattle.cell_table.specs.declared.view.View.{View}
+use Rattle.cell_table.specs.Pass.{PassState, trail_of}
+use Rattle.cell_table.specs.Rule.{callers_of}
+use Rattle.cell_table.specs.Steps.{Grows}
+use Rattle.key_directory.specs.Directory.{PassView}
+use Rattle.serial_terms.specs.declared.call.Done.{Done}
+use Rattle.serial_terms.specs.Renaming.{NamedDone, by_key}
+use Rattle.store_layout.specs.Shapes.{Shape, Object, IsCellOf}
+use Rattle.tx_core.specs.Calls.{HoldsAt, stop_in, memory_in}
+use Rattle.tx_core.specs.Causes.{CausedSince}
+use Rattle.tx_core.specs.declared.stop.Stop.{Stop}
+use Rattle.tx_core.specs.declared.stop.Stop.TheVariants.{Memory}
+use Rattle.tx_core.specs.Facts.{caused_earlier, grows_trans}
+use Rattle.tx_store.specs.declared.run.BodyStop.{BodyStop}
+use Rattle.tx_store.specs.declared.run.BodyStop.TheVariants as stops
+use Rattle.tx_store.specs.Bodies.{Does, StopsWith, Acts, in_body, memory_in_body}
+use Rattle.tx_store.specs.Calls.{IsCalled, done_in}
+use Rattle.tx_store.specs.ChildLaws.{keys_all, keys_then}
+use Rattle.tx_nest.specs.AttemptLaws.{grew_trans}
+use Rattle.tx_nest.specs.Ends.{Grew}
+use Rattle.tx_store.specs.Children.{KeysGrow}
+use Rattle.tx_store.specs.Runs.{IsSameAttempt, IsStopBetween, IsFullBetween, IsBodyStop}
+use Rattle.tx_store.specs.Stores.{TxView}
+
+pub longer : {A : Type 0} (t u : List A) → (more : List A) × (u ≡ t ++ more) → length t ≤ length u
+longer t u a = let e = ap length a.1 in omega (arith, length-append t a.0)
+
+grew_all : (t : List Event) → Grew t t
+grew_all t = ([], sym (append-nil t))
+
+grows_all : {D : Type 0} {M : Type 0} (v : View M D) → Grows v v
+grows_all v = record { meaning = refl; opening = refl; total = refl; known = omega arith; values = λ t a. a; validations = λ t a. a }
+
+full_after : (j k l : PassView) (map capacity : ℕ) → KeysGrow j k → IsFullBetween k l map capacity → IsFullBetween j l map capacity
+full_after j k l map capacity grow is =
+    let longer = longer j.trail k.trail grow.trail in
+    let since = is.since in
+    record { all = is.all; key = is.key; first = is.first; next = is.next; rest = is.rest; steps = is.steps; since = omega arith; others = is.others }
+
+by_key_more : (ds : List NamedDone) (d : NamedDone) → by_key (ds ++ d ∷ []) ≡ by_key ds ++ d.done ∷ []
+by_key_more [] d = refl
+by_key_more (x ∷ ds) d = ap (λ (es : List Done). x.done ∷ es) (by_key_more ds d)
+
+module _ {M : Type 0} where
+  -- ---- the same attempt
+
+  pub same_all : (a : TxView M) → a.attempt.committing ≡ false → IsSameAttempt a a
+  same_all a early = record {
+    store = refl;
+    before_commit = early;
+    books = refl;
+    callers = refl;
+    draws = refl;
+    room = refl;
+    version = omega arith;
+    trail = grew_all (trail_of a.attempt.pass);
+    grows = grows_all a.attempt.pass.view;
+    keys = keys_all a.keys;
+  }
+
+  pub same_then : (a b d : TxView M) → IsSameAttempt a b → IsSameAttempt b d → IsSameAttempt a d
+  same_then a b d x y =
+      let low = x.version in
+      let high = y.version in
+      record {
+        store = y.store ∙ x.store;
+        before_commit = y.before_commit;
+        books = y.books ∙ x.books;
+        callers = y.callers ∙ x.callers;
+        draws = y.draws ∙ x.draws;
+        room = y.room ∙ x.room;
+        version = omega arith;
+        trail = grew_trans _ _ _ x.trail y.trail;
+        grows = grows_trans _ _ _ x.grows y.grows;
+        keys = keys_then a.keys b.keys d.keys x.keys y.keys;
+      }
+
+  -- what a call leaves of the pass, and of the pass of the directory
+  pub same_called : (P : ℕ → Type 0) (n : ℕ) (a b : TxView M) (stop : Option Stop) → HoldsAt P n a.attempt b.attempt stop → b.store ≡ a.store → b.attempt.committing ≡ false → KeysGrow a.keys b.keys → IsSameAttempt a b
+  same_called P n a b stop holds store early keys =
+      let goes = holds.does.pass in
+      let version = holds.does.version in
+      record {
+        store = store;
+        before_commit = early;
+        books = ap (λ (p : PassState M NamedDone). p.books) goes.is;
+        callers = goes.books;
+        draws = goes.draws;
+        room = ap (λ (p : PassState M NamedDone). p.room) goes.is;
+        version = omega arith;
+        trail = (holds.does.steps.0, holds.does.steps.1);
+        grows = goes.grows;
+        keys = keys;
+      }
+
+  -- ---- stops
+
+  stop_after : (a b d : TxView M) (stop : Stop) → IsSameAttempt a b → IsStopBetween b.attempt d.attempt stop → IsStopBetween a.attempt d.attempt stop
+  stop_after a b d stop same is =
+      let low = same.version in
+      let since = is.low in
+      record {
+        version = is.version;
+        low = omega arith;
+        high = is.high;
+        caused = subst (λ books. CausedSince (callers_of books) is.version (length (trail_of a.attempt.pass)) (trail_of d.attempt.pass) stop) same.callers
+            (caused_earlier (callers_of b.attempt.pass.view.books) is.version (length (trail_of a.attempt.pass)) (length (trail_of b.attempt.pass)) (trail_of d.attempt.pass) stop (longer _ _ same.trail) is.caused);
+        sole = λ alone. is.sole (ap length same.books ∙ (alone ∙ sym same.grows.total));
+      }
+
+  body_stop_after : (a b d : TxView M) (stop : BodyStop) → IsSameAttempt a b → IsBodyStop b d stop → IsBodyStop a d stop
+  body_stop_after a b d (stops.Stop stop) same is = stop_after a b d stop same is
+  body_stop_after a b d (stops.KeysFull map capacity) same is = full_after a.keys b.keys d.keys map capacity same.keys is
+
+  pub stops_after : (a b d : TxView M) (stop : BodyStop) → IsSameAttempt a b → StopsWith b d stop → StopsWith a d stop
+  stops_after a b d stop same is = record { same = same_then a b d same is.same; cause = body_stop_after a b d stop same is.cause }
+
+  -- ---- one call, and one after another
+
+  pub does_nothing : (a : TxView M) → a.attempt.committing ≡ false → Does a a []
+  does_nothing a early = record { same = same_all a early; state = refl; noted = sym (append-nil (by_key a.attempt.notes)) }
+
+  pub does_then : (a b d : TxView M) (xs ys : List Done) → Does a b xs → Does b d ys → Does a d (xs ++ ys)
+  does_then a b d xs ys x y = record {
+    same = same_then a b d x.same y.same;
+    state = y.state ∙ x.state;
+    noted = y.noted ∙ (ap (λ (ds : List Done). ds ++ ys) x.noted ∙ append_assoc (by_key a.attempt.notes) xs ys);
+  }
+
+  pub acts_then : {A : Type 0} (a b d : TxView M) (xs : List Done) (calls : A → List Done) (result : Result A BodyStop) → Does a b xs → Acts b d calls result → Acts a d (λ answer. xs ++ calls answer) result
+  acts_then a b d xs calls (Ok answer) first next = does_then a b d xs (calls answer) first next
+  acts_then a b d xs calls (Err stop) first next = stops_after a b d stop first.same next
+
+  pub does_noted : (a b : TxView M) (d : NamedDone) → IsSameAttempt a b → b.attempt.state ≡ a.attempt.state → b.attempt.notes ≡ a.attempt.notes ++ d ∷ [] → Does a b (d.done ∷ [])
+  does_noted a b d same state notes = record { same = same; state = state; noted = ap by_key notes ∙ by_key_more a.attempt.notes d }
+
+  pub stops_called : (P : ℕ → Type 0) (n : ℕ) (a b : TxView M) (stop : Stop) → HoldsAt P n a.attempt b.attempt (Some stop) → IsSameAttempt a b → StopsWith a b (stops.Stop stop)
+  stops_called P n a b stop holds same =
+      let version = holds.does.version in
+      record {
+        same = same;
+        cause = record { version = a.attempt.version; low = omega arith; high = same.version; caused = holds.ends.cause; sole = holds.ends.sole };
+      }
+
+  keys_stay : (a b : TxView M) → b.keys ≡ a.keys → KeysGrow a.keys b.keys
+  keys_stay a b same = subst (λ (k : PassView). KeysGrow a.keys k) (sym same) (keys_all a.keys)
+
+  -- a call on a structure that has no keys
+  pub acts_called : {A : Type 0} (s : Shape) (o : Object) (n : ℕ) (a b : TxView M) (told : A → NamedDone) (result : Result A Stop) → a.attempt.committing ≡ false
+      → IsCalled s o n a b (done_in told result) (stop_in result) → Acts a b (λ answer. (told answer).done ∷ []) (in_body result)
+  acts_called s o n a b told (Ok answer) early is =
+      does_noted a b (told answer) (same_called (IsCellOf s o) n a b None is.holds is.same.store (is.same.committing ∙ early) (keys_stay a b is.same.keys)) is.holds.ends is.notes
+  acts_called s o n a b told (Err stop) early is =
+      stops_called (IsCellOf s o) n a b stop is.holds (same_called (IsCellOf s o) n a b (Some stop) is.holds is.same.store (is.same.committing ∙ early) (keys_stay a b is.same.keys))
+
+  pub acts_remembered : {A E : Type 0} (s : Shape) (o : Object) (n : ℕ) (a b : TxView M) (told : A → NamedDone) (result : Result A E) → a.attempt.committing ≡ false
+      → IsCalled s o n a b (done_in told result) (memory_in result) → Acts a b (λ answer. (told answer).done ∷ []) (memory_in_body result)
+  acts_remembered s o n a b told (Ok answer) early is =
+      does_noted a b (told answer) (same_called (IsCellOf s o) n a b None is.holds is.same.store (is.same.committing ∙ early) (keys_stay a b is.same.keys)) is.holds.ends is.notes
+  acts_remembered s o n a b told (Err memory) early is =
+      stops_called (IsCellOf s o) n a b Memory is.holds (same_called (IsCellOf s o) n a b (Some Memory) is.holds is.same.store (is.same.committing ∙ early) (keys_stay a b is.same.keys))
