@@ -1,21 +1,13 @@
 -- What a commit leaves, from its calls.
-use mathlib.Core.Logic.{dite}
-use Rattle.std.proofs.Common.{◌≡◌, ◌≢◌, ℕ, zero, suc, ◌+◌, ◌-◌, ◌*◌, ◌<◌, ◌≤◌, true, false, ltb, cond, List, [], ◌∷◌, ◌++◌, inl, inr, length, Some, None, refl, ap, sym, ◌∙◌, subst, arith, length-append, append-nil, append_assoc}
+use Rattle.std.proofs.Common.{◌≡◌, ℕ, ◌+◌, ◌-◌, ◌*◌, ◌<◌, ◌≤◌, true, false, List, [], ◌++◌, inl, inr, length, Some, refl, ap, sym, ◌∙◌, subst, arith}
 use Rattle.std.proofs.lemmas.Bool.{cases_lt}
-use Rattle.std.proofs.lemmas.Bool.Decides.{nat_tests}
-use Rattle.std.specs.Prelude.{◌⊎◌, IsOk, IsSome}
-use Rattle.cell_table.specs.Cells.{AllHold, has, after}
-use Rattle.cell_table.specs.Rule.{callers_of, cells_of}
+use Rattle.std.specs.Prelude.{IsSome}
+use Rattle.cell_table.specs.Cells.{has}
+use Rattle.cell_table.specs.Rule.{cells_of}
 use Rattle.cell_table.specs.Sorted.{Each}
-use Rattle.cell_table.specs.Steps.{IsIdle, Grows, Observes}
-use Rattle.cell_table.specs.Pass.{PassState, IsPassOf, IsSole, IsHeld, note, version_drawn, trail_of, with_view}
-use Rattle.cell_table.specs.declared.view.Event.{Event}
-use Rattle.cell_table.specs.declared.view.Event.TheVariants.{ClockLoaded}
-use Rattle.cell_table.specs.declared.view.Stage.TheVariants.{Drawn}
-use Rattle.cell_table.specs.declared.view.Record.{Record}
-use Rattle.cell_table.specs.declared.view.NotedBook.{NotedBook}
+use Rattle.cell_table.specs.Steps.{IsIdle, Grows}
+use Rattle.cell_table.specs.Pass.{PassState, IsPassOf, note, version_drawn, trail_of, with_view}
 use Rattle.attempt_lists.specs.Cells.{Entries, IsAscending, word_at}
-use Rattle.attempt_lists.specs.Parts.{Waiting, waiting_of}
 use Rattle.serial_terms.specs.declared.call.Done.{Done}
 use Rattle.serial_terms.specs.Renaming.{NamedDone, by_key, by_name}
 use Rattle.store_history.specs.Meanings.{Explains}
@@ -26,11 +18,11 @@ use Rattle.store_meaning.specs.Meant.{IsExplained}
 use Rattle.store_meaning.specs.Follows.{Follows}
 use Rattle.store_meaning.specs.Laws.{AttemptsFollow}
 use Rattle.store_parts.specs.Parts.{progress}
-use Rattle.tx_core.specs.Causes.{CausedSince, FoundTwice, GrewBy, IsFound}
-use Rattle.tx_core.specs.Calls.{GoesOn, HoldsWrites, NothingWaits, IsDrawn, IsUnseen, newly_held, waiting}
+use Rattle.tx_core.specs.Causes.{GrewBy}
+use Rattle.tx_core.specs.Calls.{GoesOn, HoldsWrites, NothingWaits, IsDrawn, newly_held}
 use Rattle.tx_core.specs.Facts.{grows_none, grows_trans, goes_trans, grew_more, grew_trans}
 use Rattle.tx_core.specs.Tx.{Attempt}
-use Rattle.tx_store.specs.Commits.{commit_steps, IsWriter, Returns, Reaches, Commits, IsReady}
+use Rattle.tx_store.specs.Commits.{commit_steps, IsWriter, Returns, Commits, IsReady}
 use Rattle.tx_store.specs.Resolves.{ObservesHeld, IsResolvedTo, IsResolved}
 use Rattle.tx_store.specs.declared.commit.Receipt.{Receipt}
 use Rattle.tx_store.proofs.Fitting.{writes_fit}

@@ -1,23 +1,23 @@
 -- The placing of a queue's and of a log's additions as that of a part.
-use Rattle.std.proofs.Common.{◌≡◌, ◌≢◌, ℕ, ◌+◌, ◌-◌, ◌<◌, ◌≤◌, true, false, ltb, cond, List, [], length, get_or, Bool, ap, sym, ◌∙◌, refl, subst, arith}
+use Rattle.std.proofs.Common.{◌≡◌, ℕ, ◌+◌, ◌-◌, ◌<◌, false, ltb, cond, List, [], length, get_or, Bool, ap, sym, ◌∙◌, refl, subst, arith}
 use Rattle.std.proofs.lemmas.Bool.{cond-true, lt-ltb}
 use Rattle.std.proofs.lemmas.Bool.Decides.{nat_tests}
 use Rattle.std.specs.Prelude.{Result, Ok, Err, IsOk}
 use Rattle.std.specs.List.{All}
-use Rattle.cell_table.specs.Cells.{AllHold, after}
+use Rattle.cell_table.specs.Cells.{after}
 use Rattle.attempt_lists.specs.Cells.{IsAscending}
 use Rattle.serial_terms.specs.Ranges.{IsKept}
 use Rattle.serial_terms.specs.Renaming.{NamedDone}
 use Rattle.serial_terms.specs.Serial.{Sequence}
 use Rattle.serial_terms.specs.Sights.{part_of}
 use Rattle.store_layout.specs.Shapes.{Shape, the_queue, the_log}
-use Rattle.store_layout.specs.States.{state_in, IsFormed}
+use Rattle.store_layout.specs.States.{state_in}
 use Rattle.store_meaning.specs.Follows.{state_with, part_of_log}
 use Rattle.store_parts.specs.Laws.{QueueCalls, LogCalls}
 use Rattle.store_parts.specs.Parts.{queue_part, log_part, progress}
 use Rattle.store_parts.specs.Placed.{queue_placed, log_placed}
 use Rattle.tx_core.specs.Calls.{waiting}
-use Rattle.tx_core.specs.Sequences.{CellSequence, Settles, Exceeds, IsSettled, IsFull, IsRefused, Placing}
+use Rattle.tx_core.specs.Sequences.{CellSequence, Settles, Exceeds, IsSettled, IsRefused, Placing}
 use Rattle.tx_core.specs.Tx.{Attempt}
 use Rattle.tx_core.specs.declared.resolve_end.ResolveEnd.{ResolveEnd}
 use Rattle.tx_core.specs.declared.resolve_end.ResolveEnd.TheVariants as resolves

@@ -1,27 +1,25 @@
 -- Why a commit was refused, from its calls.
-use Rattle.std.proofs.Common.{◌≡◌, ◌≢◌, ℕ, zero, suc, ◌+◌, ◌-◌, ◌*◌, ◌<◌, ◌≤◌, true, false, ltb, cond, List, [], ◌∷◌, ◌++◌, inl, inr, length, Some, None, refl, ap, sym, ◌∙◌, subst, arith, length-append, append-nil, append_assoc}
-use Rattle.std.proofs.lemmas.Bool.{cases_lt, cond-true, cond-false, lt-ltb}
+use Rattle.std.proofs.Common.{◌≡◌, ◌≢◌, ℕ, ◌+◌, ◌-◌, ◌*◌, ◌<◌, ◌≤◌, true, false, ltb, cond, List, [], ◌∷◌, ◌++◌, inl, inr, length, Some, None, refl, ap, sym, ◌∙◌, subst, arith, length-append, append-nil, append_assoc}
+use Rattle.std.proofs.lemmas.Bool.{cases_lt, cond-true, lt-ltb}
 use Rattle.std.proofs.lemmas.Bool.Decides.{nat_tests}
-use Rattle.std.specs.Prelude.{◌⊎◌, Bool, Option, IsSome, Result, Err, IsOk}
+use Rattle.std.specs.Prelude.{Bool, Option, IsSome, Result, Err, IsOk}
 use Rattle.cell_table.specs.Cells.{AllHold, has, after}
 use Rattle.cell_table.specs.Rule.{callers_of, cells_of}
 use Rattle.cell_table.specs.Sorted.{Each}
 use Rattle.cell_table.specs.Steps.{IsIdle, Grows, Observes}
-use Rattle.cell_table.specs.Pass.{PassState, IsPassOf, IsSole, IsHeld, trail_of, with_view}
+use Rattle.cell_table.specs.Pass.{PassState, IsPassOf, IsSole, trail_of, with_view}
 use Rattle.cell_table.specs.declared.view.Event.{Event}
 use Rattle.cell_table.specs.declared.view.Event.TheVariants.{ClockLoaded}
 use Rattle.cell_table.specs.declared.view.View.{View}
-use Rattle.attempt_lists.specs.Cells.{Entries, word_at, word_of, cell_at}
+use Rattle.attempt_lists.specs.Cells.{Entries, word_at, cell_at}
 use Rattle.serial_terms.specs.Histories.{Runs}
 use Rattle.serial_terms.specs.Renaming.{NamedDone, by_name}
-use Rattle.serial_terms.specs.Serial.{State, Sequence}
 use Rattle.serial_terms.specs.Sights.{part_of}
 use Rattle.store_layout.specs.Shapes.{Shape}
 use Rattle.store_layout.specs.States.{state_in, IsFormed}
 use Rattle.store_layout.specs.Within.{formed_is_within_capacity}
 use Rattle.store_meaning.specs.Follows.{state_with, waits_for_queue}
-use Rattle.store_parts.specs.Parts.{progress}
-use Rattle.tx_core.specs.Causes.{CausedSince, FoundSince, FoundTwice, GrewBy, IsFound, IsFoundAt, IsOfOne}
+use Rattle.tx_core.specs.Causes.{CausedSince, FoundTwice, GrewBy, IsFound, IsFoundAt, IsOfOne}
 use Rattle.tx_core.specs.Calls.{GoesOn, CausedIn, IsUnseen, IsFoundIn, HoldsAt, newly_held, waiting}
 use Rattle.tx_core.specs.Facts.{grows_trans, goes_trans, goes_sole, observes_grows, grew_more, grew_trans, length_grown, caused_longer, caused_second, found_longer, twice_earlier}
 use Rattle.tx_core.specs.Seen.{IsFirstChanged}
@@ -34,8 +32,8 @@ use Rattle.tx_core.specs.declared.stop.Stop.{Stop}
 use Rattle.tx_core.specs.declared.stop.Stop.TheVariants.{Held, Newer, Memory}
 use Rattle.tx_store.specs.declared.commit.CommitEnd.{CommitEnd}
 use Rattle.tx_store.specs.declared.commit.CommitEnd.TheVariants as ends
-use Rattle.tx_store.specs.Commits.{commit_steps, IsWriter, IsWithin, Returns, IsStoppedBy, IsFullAt, HasCause, IsForCapacity, Refuses, IsGivenUp, stop_end, resolve_end, IsFoundEnd}
-use Rattle.tx_store.specs.Resolves.{IsLong, IsPart, IsResolvedTo, IsRefusedIn, ObservesHeld}
+use Rattle.tx_store.specs.Commits.{commit_steps, IsWriter, IsWithin, Returns, IsStoppedBy, IsFullAt, HasCause, Refuses, IsGivenUp, stop_end, resolve_end}
+use Rattle.tx_store.specs.Resolves.{IsLong, IsPart, IsResolvedTo, ObservesHeld}
 use Rattle.tx_store.proofs.Fitting.{each_by_index, has_word}
 
 -- ---- causes stay when the pass knows more

@@ -1,35 +1,29 @@
 -- One part after another whose additions are placed.
 use mathlib.Core.Logic.{dite}
 use native.Mathlib.Decide.{ℕ_discrete}
-use Rattle.std.proofs.Common.{◌≡◌, ◌≢◌, ℕ, zero, suc, ◌+◌, ◌-◌, ◌*◌, ◌<◌, ◌≤◌, false, List, [], ◌∷◌, ◌++◌, inl, inr, length, Some, None, refl, ap, sym, ◌∙◌, subst, arith, length-append, append-nil, append_assoc}
+use Rattle.std.proofs.Common.{◌≡◌, ◌≢◌, ℕ, ◌+◌, ◌-◌, ◌*◌, ◌<◌, ◌≤◌, false, List, [], ◌∷◌, ◌++◌, inl, inr, length, Some, refl, ap, sym, ◌∙◌, subst, arith, append-nil, append_assoc}
 use Rattle.std.proofs.lemmas.Bool.{cases_lt}
 use Rattle.std.proofs.lemmas.Bool.Decides.{nat_tests}
-use Rattle.std.specs.Prelude.{◌⊎◌, Option, nat_eq, Result, Ok, Err}
+use Rattle.std.specs.Prelude.{◌⊎◌, Option, nat_eq, Ok}
 use Rattle.std.specs.List.{IsDistinct, AllByRecursion}
 use Rattle.std.specs.List.{sum_by}
 use Rattle.std.proofs.lemmas.List.Sums.{sum_by-cons}
-use Rattle.cell_table.specs.Cells.{has}
-use Rattle.cell_table.specs.Rule.{cells_of}
 use Rattle.cell_table.specs.Sorted.{Each}
 use Rattle.cell_table.specs.Pass.{PassState, IsHeld, trail_of}
 use Rattle.attempt_lists.specs.Cells.{Entries, word_at}
-use Rattle.attempt_lists.specs.Parts.{Waiting, waiting_of}
 use Rattle.serial_terms.specs.Renaming.{NamedDone}
-use Rattle.store_layout.specs.Shapes.{Shape, Object, with_end, most_cells}
+use Rattle.store_layout.specs.Shapes.{Shape, with_end, most_cells}
 use Rattle.store_layout.specs.Shapes.{cells_of as cells_of_shape}
-use Rattle.store_meaning.specs.Follows.{Follows, IsPlacedOn}
+use Rattle.store_meaning.specs.Follows.{Follows}
 use Rattle.store_meaning.specs.Laws.{AttemptsFollow}
 use Rattle.store_parts.specs.Parts.{progress}
 use Rattle.tx_core.specs.Additions.{HasSpare, HasTwoEach, count_in}
-use Rattle.tx_core.specs.Calls.{GoesOn, HoldsWrites, KeepsHeld, NothingWaits, UsesAtMost, TouchesOnly, waiting}
-use Rattle.tx_core.specs.Causes.{GrewBy}
+use Rattle.tx_core.specs.Calls.{HoldsWrites, KeepsHeld, NothingWaits, TouchesOnly, waiting}
 use Rattle.tx_core.specs.Facts.{goes_none, goes_trans, grew_none, grew_more, grew_trans, held_kept}
-use Rattle.tx_core.specs.Sequences.{CellSequence, place_of, FoundEnd, IsPlace, IsExtended, IsSettled, Placing}
+use Rattle.tx_core.specs.Sequences.{CellSequence, place_of, IsPlace, IsExtended}
 use Rattle.tx_core.specs.Tx.{Attempt}
-use Rattle.tx_core.specs.declared.resolve_end.ResolveEnd.{ResolveEnd}
-use Rattle.tx_core.specs.declared.spare.Spare.{Spare}
 use Rattle.tx_store.specs.Attempts.{AreWaiting}
-use Rattle.tx_store.specs.Resolves.{parts_of, ObservesHeld, LocksOnly, PlacesOrRefuses, Resolves, IsResolvedTo}
+use Rattle.tx_store.specs.Resolves.{parts_of, ObservesHeld, LocksOnly, Resolves, IsResolvedTo}
 
 -- each queue and each log has a cell
 ends_count : (ns : List ℕ) → length ns ≤ sum_by with_end ns

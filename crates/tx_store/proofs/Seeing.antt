@@ -1,10 +1,8 @@
 -- What a pass vouches for when an attempt comes back without a record.
-use Rattle.std.proofs.Common.{◌≡◌, ℕ, ◌<◌, ◌≤◌, List, [], ◌∷◌, length, refl, ap, sym, ◌∙◌, subst, arith}
-use Rattle.cell_table.specs.Cells.{AllHold}
-use Rattle.cell_table.specs.Sorted.{Each}
+use Rattle.std.proofs.Common.{◌≡◌, ℕ, ◌<◌, ◌≤◌, List, length, refl, ap, sym, subst, arith}
 use Rattle.cell_table.specs.Steps.{Grows, Observes}
 use Rattle.cell_table.specs.Pass.{TableState, PassState, IsPassOf}
-use Rattle.attempt_lists.specs.Cells.{Entries, word_of, cell_at}
+use Rattle.attempt_lists.specs.Cells.{word_of, cell_at}
 use Rattle.serial_terms.specs.declared.sight.SightEnd.{SightEnd}
 use Rattle.serial_terms.specs.declared.sight.SightEnd.TheVariants as sights
 use Rattle.serial_terms.specs.Renaming.{NamedDone}

@@ -1,5 +1,5 @@
 -- What a pass vouches for stays so.
-use Rattle.std.proofs.Common.{ℕ, ◌≤◌, ◌<◌, length, ap, subst, sym, arith}
+use Rattle.std.proofs.Common.{ℕ, ◌<◌, length, ap, arith}
 use Rattle.cell_table.specs.Steps.{Grows, Observes}
 use Rattle.cell_table.specs.declared.view.View.{View}
 use Rattle.serial_terms.specs.Renaming.{NamedDone}

@@ -1,5 +1,5 @@
 -- How a commit on a store ends.
-use Rattle.std.specs.Prelude.{◌≡◌, ◌↔◌, ℕ, ◌+◌, ◌-◌, ◌*◌, ◌<◌, ◌≤◌, ◌⊎◌, true, false, List, [], ◌∷◌, ◌++◌, length, if◌then◌else◌}
+use Rattle.std.specs.Prelude.{◌≡◌, ◌↔◌, ℕ, ◌+◌, ◌-◌, ◌*◌, ◌<◌, ◌≤◌, ◌⊎◌, true, false, List, ◌∷◌, ◌++◌, length, if◌then◌else◌}
 use Rattle.cell_table.specs.Cells.{AllHold}
 use Rattle.cell_table.specs.Sorted.{Each}
 use Rattle.cell_table.specs.Rule.{callers_of}

@@ -6,7 +6,6 @@ use Rattle.cell_table.specs.Sorted.{Each}
 use Rattle.cell_table.specs.Pass.{PassState, IsHeld, trail_of}
 use Rattle.attempt_lists.specs.Cells.{Entries}
 use Rattle.serial_terms.specs.Renaming.{NamedDone}
-use Rattle.serial_terms.specs.Serial.{Sequence}
 use Rattle.serial_terms.specs.Sights.{part_of}
 use Rattle.store_layout.specs.Shapes.{Shape, Object}
 use Rattle.store_layout.specs.States.{IsFormed}
