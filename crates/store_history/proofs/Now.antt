@@ -21,7 +21,7 @@ module _ {M D : Type 0} (lawful : M → List ℕ → Type 0) (explains : M → L
     (named : List D → List NamedDone) (formed : M → List ℕ → Type 0) (state_of : M → List ℕ → State) (lawful_state : M → State → Type 0) (allows : M → List Done → Type 0)
     (within : (m : M) (cells : List ℕ) → formed m cells → IsWithinCapacity (state_of m cells))
     (lawful_means : (m : M) (cells : List ℕ) → lawful m cells → IsLawful (formed m) (state_of m) (lawful_state m) cells)
-    (explains_means : (m : M) (os ws : List (ℕ × ℕ)) (ds : List D) → explains m os ws ds → allows m (by_key (named ds)) × Explains (formed m) (state_of m) os ws (by_name (named ds)))
+    (explains_means : (m : M) (os ws : List (ℕ × ℕ)) (ds : List D) → explains m os ws ds → (allows m (by_key (named ds)) × allows m (by_name (named ds))) × Explains (formed m) (state_of m) os ws (by_name (named ds)))
     (m : M) (p : PassState M D)
     (running : MergedIsRunning (lawful_state m)) (legal : RunningIsLegal (lawful_state m)) (stays : RunningStaysLawful (lawful_state m))
     (f : IsPass lawful explains p) where

@@ -64,7 +64,7 @@ module _ {M D : Type 0} (lawful : M → List ℕ → Type 0) (explains : M → L
     (named : List D → List NamedDone) (formed : M → List ℕ → Type 0) (state_of : M → List ℕ → State) (lawful_state : M → State → Type 0) (allows : M → List Done → Type 0)
     (within : (m : M) (cells : List ℕ) → formed m cells → IsWithinCapacity (state_of m cells))
     (lawful_means : (m : M) (cells : List ℕ) → lawful m cells → IsLawful (formed m) (state_of m) (lawful_state m) cells)
-    (explains_means : (m : M) (os ws : List (ℕ × ℕ)) (ds : List D) → explains m os ws ds → allows m (by_key (named ds)) × Explains (formed m) (state_of m) os ws (by_name (named ds))) where
+    (explains_means : (m : M) (os ws : List (ℕ × ℕ)) (ds : List D) → explains m os ws ds → (allows m (by_key (named ds)) × allows m (by_name (named ds))) × Explains (formed m) (state_of m) os ws (by_name (named ds))) where
   abbrev by_names : List D → List Done
   by_names ds = by_name (named ds)
 
@@ -132,11 +132,18 @@ module _ {M D : Type 0} (lawful : M → List ℕ → Type 0) (explains : M → L
     runs_to t s r = subst (λ (z : List (Entry Done)). RunsLawfully (lawful_state m) (state 0) (up_to t z) s) by_names_told
         (numbered_runs IsReplied step (λ s. IsWithinCapacity s × lawful_state m s) t (λ k. 0) told (state 0) s r)
 
+    -- where each explained record is allowed by these of its calls, so are the records of the history
+    allowed_by : (calls : List D → List Done) → ((os ws : List (ℕ × ℕ)) (ds : List D) → explains m os ws ds → allows m (calls ds)) → Each (λ e. allows m e.dones) (numbered (λ k. 0) (all_of calls h bs n))
+    allowed_by calls why = numbered_each (λ e. allows m e.dones) (λ e i a. a) (λ k. 0) (all_of calls h bs n)
+        (all_each calls (λ e. allows m e.dones) h bs
+        (λ p k r e. why r.observations r.writes r.dones (f.writers p k r e).0)
+        (λ p. readers_all calls IsRead (λ e. allows m e.dones) p (λ k e a. why e.content.observations [] e.content.dones (a.2 a.1).0) bs f.readers) n)
+
     all_allowed : Each (λ e. allows m e.dones) (entries_with by_key history)
-    all_allowed = subst (Each (λ e. allows m e.dones)) by_keys_told (numbered_each (λ e. allows m e.dones) (λ e i a. a) (λ k. 0) (all_of by_keys h bs n)
-        (all_each by_keys (λ e. allows m e.dones) h bs
-        (λ p k r e. (explains_means m r.observations r.writes r.dones (f.writers p k r e).0).0)
-        (λ p. readers_all by_keys IsRead (λ e. allows m e.dones) p (λ k e a. (explains_means m e.content.observations [] e.content.dones (a.2 a.1).0).0) bs f.readers) n))
+    all_allowed = subst (Each (λ e. allows m e.dones)) by_keys_told (allowed_by by_keys (λ os ws ds x. (explains_means m os ws ds x).0.0))
+
+    all_placed : Each (λ e. allows m e.dones) (entries_with by_name history)
+    all_placed = subst (Each (λ e. allows m e.dones)) by_names_told (allowed_by by_names (λ os ws ds x. (explains_means m os ws ds x).0.1))
 
     own_books : Each (λ b. by_caller b.caller history ≡ b.records) (books_of named bs)
     own_books = each_book named (λ b. by_caller b.caller history ≡ b.records) bs (λ b i.
@@ -158,6 +165,7 @@ module _ {M D : Type 0} (lawful : M → List ℕ → Type 0) (explains : M → L
         lawful_end = (meant n).1;
         lawful_there = λ t. let s = (stays (state 0) (state n) told runs_on.0 (meant 0).1).1 t in (s.0, (s.2, runs_to t s.0 s.1));
         allowed = all_allowed;
+        placed = all_placed;
         own = own_books;
         sights = sees;
       }

@@ -41,7 +41,9 @@ module _ {M D : Type 0} (lawful : M → List ℕ → Type 0) (named : List D →
       pub lawful_end : lawful_state m end
       -- the state at each place is lawful
       pub lawful_there : (place : ℕ) → (s : State) × IsLawfulAt (lawful_state m) (state_of m p.view.opening) (entries_with by_name history) place s
+      -- each record is allowed by its keys, and by their names
       pub allowed : Each (λ e. allows m e.dones) (entries_with by_key history)
+      pub placed : Each (λ e. allows m e.dones) (entries_with by_name history)
       -- of each caller number of the pass it has exactly the records of its book, in their order
       pub own : Each (λ b. by_caller b.caller history ≡ b.records) (books_of named p.books)
       pub sights : (queues : ℕ) (seen : Seen NamedDone) → VouchesFor m p.view queues seen

@@ -47,6 +47,10 @@ by_own_keys : (dones : List Done) → by_key (unkeyed dones) ≡ dones
 by_own_keys [] = refl
 by_own_keys (d ∷ ds) = ap (λ (z : List Done). d ∷ z) (by_own_keys ds)
 
+-- by its name it is the same call
+pub put_by_name : (limit : ℕ) (dones : List Done) → IsPut limit (by_key (unkeyed dones)) → IsPut limit (by_name (unkeyed dones))
+put_by_name limit dones put = (put.0, put.1, ap (λ (z : List Done). by_name (unkeyed z)) (sym (by_own_keys dones) ∙ put.2))
+
 put_in_cells : (value : ℕ) (cells : List ℕ) → IsThere cells → (c : ℕ) → with_at (λ d. get_or cells d 0) 0 value c ≡ get_or (set cells 0 value) c 0
 put_in_cells value [] there c = absurd (omega arith)
 put_in_cells value (x ∷ xs) there zero = with_at_same (λ d. get_or (x ∷ xs) d 0) 0 value 0 refl

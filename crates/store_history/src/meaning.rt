@@ -27,7 +27,7 @@ pub trait StateMeaning: Meaning + Lawful {
     /// Lawful cells stand for a lawful state.
     ghost lawful_means: { (m : Self) (cells : List ℕ) → Self.lawful m cells → IsLawful (formed m) (state_of m) (Self.lawful_state m) cells };
 
-    /// A record that is explained is an allowed one, and its calls run wherever its observations hold.
+    /// A record that is explained is an allowed one, by its keys and by their names, and its calls run wherever its observations hold.
     ghost explains_means: { (m : Self) (observations writes : List (ℕ × ℕ)) (dones : List Self.Done) → Self.explains m observations writes dones
-        → Self.allowed m (by_key (named dones)) × Explains (formed m) (state_of m) observations writes (by_name (named dones)) };
+        → (Self.allowed m (by_key (named dones)) × Self.allowed m (by_name (named dones))) × Explains (formed m) (state_of m) observations writes (by_name (named dones)) };
 }

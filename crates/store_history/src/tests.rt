@@ -47,7 +47,7 @@ impl Lawful for LimitedCell {
 }
 
 impl StateMeaning for LimitedCell {
-    ghost use Rattle.store_history.specs.Plain.{unkeyed, IsThere, plain_state, plain_within};
+    ghost use Rattle.store_history.specs.Plain.{unkeyed, IsThere, plain_state, plain_within, put_by_name};
 
     ghost named = { unkeyed };
 
@@ -59,7 +59,7 @@ impl StateMeaning for LimitedCell {
 
     ghost lawful_means = { λ m cells l. l };
 
-    ghost explains_means = { λ m observations writes dones e. e };
+    ghost explains_means = { λ m observations writes dones e. ((e.0, put_by_name m.limit dones e.0), e.1) };
 }
 
 // Puts the value into the first cell, where its lock can be taken.

@@ -51,5 +51,5 @@ impl<P: Purpose> StateMeaning for StoreMeaning<P> {
 
     ghost lawful_means = { λ m cells lawful. lawful };
 
-    ghost explains_means = { λ m observations writes notes explained. (explained.allowed, explained.leads) };
+    ghost explains_means = { λ m observations writes notes explained. ((explained.allowed, explained.placed), explained.leads) };
 }
