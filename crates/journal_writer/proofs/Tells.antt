@@ -1,5 +1,5 @@
--- What a journal's text tells, and that it is legal.
-use Rattle.std.proofs.Common.{◌≡◌, ◌≢◌, ℕ, List, [], ◌∷◌, get_or, Option, Some, refl, ◌∙◌, ap, arith}
+-- What a journal's text tells.
+use Rattle.std.proofs.Common.{◌≡◌, ℕ, List, [], ◌∷◌, get_or, Some, refl, ◌∙◌, ap, arith}
 use Rattle.serial_terms.specs.declared.call.Done.{Done}
 use Rattle.serial_terms.specs.declared.committed.Record.{Record}
 use Rattle.serial_terms.specs.declared.sight.Sight.{Sight}
@@ -7,13 +7,11 @@ use Rattle.serial_terms.specs.Entries.{Entry}
 use Rattle.serial_terms.specs.Histories.{entry_of, entries_of}
 use Rattle.serial_terms.specs.Sights.{Seen, seen_of, all_seen_of}
 use Rattle.journal_terms.specs.Laws.{IsWritableJournal, OneTextOneJournal}
-use Rattle.journal_terms.specs.Legal.{IsLegalJournal, IsLegalText}
-use Rattle.journal_terms.specs.Text.{Journal, journal_text}
-use Rattle.journal_writer.specs.declared.journal.Format.{Format}
+use Rattle.journal_terms.specs.Text.{Journal}
 use Rattle.journal_writer.specs.declared.journal.Format.TheVariants.{Records, Sights}
 use Rattle.journal_writer.specs.declared.journal.Sizes.{Sizes}
 use Rattle.journal_writer.specs.Journals.{journal_of}
-use Rattle.journal_writer.specs.Laws.{AreWritable, HaveOneText, TextsTell, LegalJournals}
+use Rattle.journal_writer.specs.Laws.{AreWritable, TextsTell}
 
 abbrev record_by : Entry Done → Record
 record_by e = record { caller = e.caller; index = e.index; place = e.place; writer = e.writer; dones = e.dones }
@@ -63,18 +61,3 @@ tells law = record {
       let digit : 49 ≡ 50 = ap (λ (l : List ℕ). get_or l 8 0) one in
       omega (arith, digit);
 }
-
-pub legal : LegalJournals
-legal s rs vs Sights is = (journal_of s rs vs Sights, is, refl)
-legal s rs vs Records is = (
-  journal_of s rs vs Records,
-  record {
-    writable = without s rs vs is.writable;
-    sizes = is.sizes;
-    records = is.records;
-    sights = tt;
-    legal = is.legal;
-    seen = record { order = tt; consistent = tt; after = tt; rising = tt };
-  },
-  refl,
-)

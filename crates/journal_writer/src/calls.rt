@@ -1,5 +1,5 @@
 // Calls with their replies.
-ghost use Rattle.std.specs.Prelude.{◌≡◌, ◌++◌, ◌∷◌, OnOk};
+ghost use Rattle.std.specs.Prelude.{◌≡◌, ◌++◌, OnOk};
 ghost use Rattle.std.specs.List.{flat_map};
 ghost use Rattle.journal_terms.specs.Text.{call_name, call_words, calls_text, done_text, mark, space};
 ghost use Rattle.journal_writer.specs.Texts.{answered, separated, spaced};

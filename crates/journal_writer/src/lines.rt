@@ -1,5 +1,5 @@
 // The lines of a journal. Each is written with its line feed.
-ghost use Rattle.std.specs.Prelude.{◌≡◌, ◌++◌, ◌∷◌, OnOk};
+ghost use Rattle.std.specs.Prelude.{◌≡◌, ◌++◌, OnOk};
 ghost use Rattle.std.specs.List.{flat_map};
 ghost use Rattle.serial_terms.specs.Histories.{entry_of};
 ghost use Rattle.serial_terms.specs.Sights.{seen_of};

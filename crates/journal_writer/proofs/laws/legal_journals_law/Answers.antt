@@ -1,5 +1,5 @@
-use Rattle.journal_writer.proofs.Tells.{legal}
+use Rattle.journal_writer.proofs.Legal.{legal}
 use Rattle.journal_writer.proofs.laws.legal_journals_law.Goals as goal
 
 pub returns : goal.returns
-returns c = legal
+returns c = legal c.records_keep_sizes_law.ensures c.replies_have_kinds_law.ensures
