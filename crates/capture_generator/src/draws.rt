@@ -40,7 +40,7 @@ impl Draws {
         ensures letters { IfOk result (λ drawn. drawn.items ≡ letters self.old.state number) }
         ensures count { IfOk result (λ drawn. length drawn.items ≡ number) }
     {
-        let mut drawn = Vec::new(alloc);
+        let mut drawn = Vec::with_capacity(alloc, number as usize)?;
         for _ in 0..number {
             drawn.push(self.letter())?;
         }

@@ -20,7 +20,7 @@ pub(crate) fn ipv4_packet(
     ensures bytes { IfOk result (λ packet. packet.items ≡ the_ipv4_packet datagram fragment payload.now) }
     ensures count { IfOk result (λ packet. length packet.items ≡ 34 + length payload.now) }
 {
-    let mut packet = Vec::new(alloc);
+    let mut packet = Vec::with_capacity(alloc, 34 + payload.len())?;
     packet.extend_from_slice(&[2, 0, 0, 0, 0, 2, 2, 0, 0, 0, 0, 1, 8, 0])?;
     push_ipv4_front(&mut packet, datagram, fragment, payload.len() as u16)?;
     push_ipv4_back(&mut packet, datagram)?;
@@ -34,7 +34,7 @@ pub(crate) fn arp_packet(alloc: Global) -> Result<Vec<u8>, AllocError>
     ensures bytes { IfOk result (λ packet. packet.items ≡ the_arp_packet) }
     ensures count { IfOk result (λ packet. length packet.items ≡ 60) }
 {
-    let mut packet = Vec::new(alloc);
+    let mut packet = Vec::with_capacity(alloc, 60)?;
     packet.extend_from_slice(&[2, 0, 0, 0, 0, 2, 2, 0, 0, 0, 0, 1, 8, 6])?;
     packet.extend_from_slice(&[0; 46])?;
     Ok(packet)
@@ -52,7 +52,7 @@ pub(crate) fn payload_drawn(
     ensures payload { IfOk result (λ payload. payload.items ≡ payload_of datagram draws.old.state letters) }
     ensures count { IfOk result (λ payload. length payload.items ≡ 8 + letters) }
 {
-    let mut payload = Vec::new(alloc);
+    let mut payload = Vec::with_capacity(alloc, 8 + usize::from(letters))?;
     push_udp_header(&mut payload, datagram, letters)?;
     let drawn = draws.letters(alloc, u32::from(letters))?;
     payload.extend_from_slice(&drawn)?;
