@@ -126,6 +126,7 @@ module _ {P K : Type 0} (lawful_state : P → State → Type 0) (allowed : P →
                   (is.sights (length m.plan.queues) seen v.view (names_of_claimed claims name names seen.dones v.claimed)));
             };
         maps = are.maps;
+        counted = are.counted;
       }
 
 -- ---- what is settled

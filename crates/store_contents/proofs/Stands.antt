@@ -187,11 +187,11 @@ module _ (maps queues pools logs : List Place) (plain : Place) (cells : List ℕ
             (λ i. ap (λ (z : List ℕ). get_or z i 0) c ∙ (ap (λ (n : ℕ). get_or (words_at n plain.capacity cells) i 0) is.plain_stands ∙ at_cell s cells formed.sized i));
         maps = each_at AreByKey contents.maps (λ i less. (are i zero_place (omega arith)).order);
         slots = λ i less. pool i;
-        counted = (
-          size ∙ counted (λ c. c) 0 s.maps maps is.maps_stand,
-          ap length q ∙ (length-map queues (λ p. queue_at cells p) ∙ counted with_end (queues_from s) s.queues queues is.queues_stand),
-          ap length p ∙ (length-map pools (λ p. pool_at cells p) ∙ counted (λ c. c) (pools_from s) s.pools pools is.pools_stand),
-          ap length l ∙ (length-map logs (λ p. log_at cells p) ∙ counted with_end (logs_from s) s.logs logs is.logs_stand),
-          ap length c ∙ sized plain.first plain.capacity cells (plain_there).within,
-        );
+        counted = record {
+          maps = size ∙ counted (λ c. c) 0 s.maps maps is.maps_stand;
+          queues = ap length q ∙ (length-map queues (λ p. queue_at cells p) ∙ counted with_end (queues_from s) s.queues queues is.queues_stand);
+          pools = ap length p ∙ (length-map pools (λ p. pool_at cells p) ∙ counted (λ c. c) (pools_from s) s.pools pools is.pools_stand);
+          logs = ap length l ∙ (length-map logs (λ p. log_at cells p) ∙ counted with_end (logs_from s) s.logs logs is.logs_stand);
+          cells = ap length c ∙ sized plain.first plain.capacity cells (plain_there).within;
+        };
       }

@@ -12,7 +12,7 @@ use Rattle.serial_terms.specs.Renaming.{NamedDone, by_key, seen_with}
 use Rattle.serial_terms.specs.Serial.{State}
 use Rattle.serial_terms.specs.Sights.{Seen, IsConsistent}
 use Rattle.serial_terms.specs.Stores.{opening_of, state_of}
-use Rattle.store_contents.specs.Contents.{AreByKey}
+use Rattle.store_contents.specs.Contents.{AreByKey, HasAll}
 use Rattle.store_history.specs.Books.{books_of}
 use Rattle.store_history.specs.Keyed.{books_with}
 use Rattle.store_layout.specs.Opening.{opening_words}
@@ -39,13 +39,14 @@ module _ {P K : Type 0} (lawful_state : P → State → Type 0) where
     pub sights : (seen : Seen NamedDone) → IsVouchedFor lawful_state m p claims seen → IsConsistent (length layout.queues) (opening_of layout) history (seen_with by_key seen)
 
   -- The records are those of the pass's books and no others, in the order of a history, each may be one, and each reply is of its call's kind.
-  -- They are serial from the opening of the layout to the contents
+  -- They are serial from the opening of the layout to the contents, which have as many structures as were laid out
   pub record IsClosed (allowed : P → List Done → Type 0) (m : StoreMeaning P K) (p : PassState (StoreMeaning P K) NamedDone) (claims : List Claim) (history : List (Entry Done)) (contents : StoreState) : Type 0 where
     pub records : IsHistoryOf (books_by_key p) history
     pub may_be : Each (λ e. allowed m.purpose e.dones) history
     pub kinds : Each (λ e. Each HasKind e.dones) history
     pub serial : (layout : Layout) → AreLaidOutBy m.plan p.view.opening layout → IsSerial m p claims layout history contents
     pub maps : Each AreByKey contents.maps
+    pub counted : HasAll m.plan contents
 
 -- what room was taken for: the shape of the cells, and the books of records
 pub record RoomView : Type 0 where

@@ -28,11 +28,18 @@ KeysAreApart keys = (map key p q : ℕ) → IsPosition keys.capacities map p →
 abbrev pub AreByKey : List (ℕ × ℕ) → Type 0
 AreByKey = OrderedBy (λ a b. a.0 < b.0)
 
+-- as many structures of each kind as the shape has
+pub record HasAll (s : Shape) (contents : StoreState) : Type 0 where
+  pub maps : length contents.maps ≡ length s.maps
+  pub queues : length contents.queues ≡ length s.queues
+  pub pools : length contents.pools ≡ length s.pools
+  pub logs : length contents.logs ≡ length s.logs
+  pub cells : length contents.cells ≡ s.cells
+
 -- The contents are what the cells and the keys hold: for each layout of this shape they stand for the state of the cells, with keys in
 -- the place of their positions. Maps are in key order, and pools have their items in the order of their slots
 pub record AreContents (s : Shape) (cells : List ℕ) (keys : KeyListView) (contents : StoreState) : Type 0 where
   pub state : (layout : Layout) → s ≡ shape_of layout → state_of layout contents ≡ by_keys (name_in keys) (state_in s cells)
   pub maps : Each AreByKey contents.maps
   pub slots : (p : ℕ) → p < length s.pools → get_or contents.pools p [] ≡ items_in (words_of s (the_pool p) cells)
-  pub counted : (length contents.maps ≡ length s.maps) × (length contents.queues ≡ length s.queues) × (length contents.pools ≡ length s.pools)
-      × (length contents.logs ≡ length s.logs) × (length contents.cells ≡ s.cells)
+  pub counted : HasAll s contents
