@@ -4,6 +4,7 @@ use Rattle.std.specs.Prelude.{Result, Ok, Err, Some, None}
 use Rattle.std.proofs.lemmas.List.{append-nil}
 use Rattle.attempt_lists.specs.Parts.{marked_of}
 use Rattle.key_directory.specs.Directory.{PassView}
+use Rattle.key_directory.specs.Words.{capacity_of}
 use Rattle.serial_terms.specs.Renaming.{NamedDone, MayName}
 use Rattle.store_layout.specs.Shapes.{Shape, the_map, first_of, IsCellOf}
 use Rattle.store_meaning.specs.declared.meaning.StoreMeaning.{StoreMeaning}
@@ -95,13 +96,18 @@ module _ {M A : Type 0} (passes : ℕ → ℕ → Type 0) (s : Shape) (m key n :
       same = same made;
     }
 
-  pub key_full : (capacity : ℕ) → ClaimsKey part {A = ℕ} passes key old.keys new.keys (Err (KeysFull capacity)) → new.attempt ≡ old.attempt → IsCalledWithKey passes s m key n old new told (Err (KeysFull capacity))
-  key_full capacity claims unchanged = record {
+  -- the number of its keys is that of its positions in the directory
+  number : (capacity : ℕ) → ClaimsKey part {A = ℕ} passes key old.keys new.keys (Err (KeysFull capacity)) → old.keys.directory.capacities ≡ s.maps → capacity ≡ capacity_of new.keys.directory.capacities m
+  number capacity claims regions = claims.refused.0 ∙ ap (λ (p : MapPart). p.capacity) is ∙ ap (λ (cs : List ℕ). capacity_of cs m) (sym (ap (λ (k : PassView). k.directory.capacities) claims.pass ∙ regions))
+
+  pub key_full : (capacity : ℕ) → ClaimsKey part {A = ℕ} passes key old.keys new.keys (Err (KeysFull capacity)) → old.keys.directory.capacities ≡ s.maps → new.attempt ≡ old.attempt
+      → IsCalledWithKey passes s m key n old new told (Err (KeysFull capacity))
+  key_full capacity claims regions unchanged = record {
     notes = ap (λ (a : Attempt M NamedDone). a.notes) unchanged ∙ sym (append-nil old.attempt.notes);
     looks = subst (λ (a : Attempt M NamedDone). LooksAt (λ c. c ≡ first_of s (the_map m) + position_of (map_part s m) new.keys key) n old.attempt a None) (sym unchanged)
         (looks_wider (λ c. ⊥) (λ c. c ≡ first_of s (the_map m) + position_of (map_part s m) new.keys key) 0 n old.attempt old.attempt None (λ c none. absurd none) (omega arith) (looks_none (λ c. ⊥) old.attempt));
     keys = claims_full (map_part s m) passes key capacity old.keys new.keys (subst (λ (p : MapPart). ClaimsKey p {A = ℕ} passes key old.keys new.keys (Err (KeysFull capacity))) is claims);
-    full = unchanged;
+    full = (number capacity claims regions, unchanged);
     same = record {
       store = store;
       committing = ap (λ (a : Attempt M NamedDone). a.committing) unchanged;
@@ -110,9 +116,10 @@ module _ {M A : Type 0} (passes : ℕ → ℕ → Type 0) (s : Shape) (m key n :
   }
 
   -- KeysFull is all that a claim is refused by
-  pub key_refused : (full : MapStop) → stop_in {A = ℕ} (Err full) ≡ None → ClaimsKey part {A = ℕ} passes key old.keys new.keys (Err full) → new.attempt ≡ old.attempt → IsCalledWithKey passes s m key n old new told (Err full)
-  key_refused (Stop stop) never claims unchanged = absurd (cc)
-  key_refused (KeysFull capacity) never claims unchanged = key_full capacity claims unchanged
+  pub key_refused : (full : MapStop) → stop_in {A = ℕ} (Err full) ≡ None → ClaimsKey part {A = ℕ} passes key old.keys new.keys (Err full) → old.keys.directory.capacities ≡ s.maps → new.attempt ≡ old.attempt
+      → IsCalledWithKey passes s m key n old new told (Err full)
+  key_refused (Stop stop) never claims regions unchanged = absurd (cc)
+  key_refused (KeysFull capacity) never claims regions unchanged = key_full capacity claims regions unchanged
 
 -- the position is one that may stand for the key
 pub may_name : (passes : ℕ → ℕ → Type 0) (key : ℕ) (part : MapPart) (old new : PassView) (position : ℕ) → ClaimsKey part {A = ℕ} passes key old new (Ok position) → position ≡ position_of part new key → MayName passes position key

@@ -37,8 +37,9 @@ module _ {M : Type 0} where
       → IsCommittedRun allows runs p q out → IsCommittedRun allows earlier p q out
   ran_by allows runs earlier p q out same is = record { writer = is.writer; content = is.content; books = is.books; allowed = is.allowed; ran = same _ is.ran }
 
-  pub refused_as : (Saw : PassView M → Seen NamedDone → Type 0) (tries : ℕ) (p q : PassView M) (end : RunEnd) → AfterFewer Saw tries p (λ r. IsLastEnd Saw r q end) → IsRefusedRun Saw tries p q end
-  refused_as Saw tries p q (run_ends.Spent n last) is = absurd is.ends
-  refused_as Saw tries p q (run_ends.Full part values adding) is = is
-  refused_as Saw tries p q (run_ends.KeysFull map capacity) is = is
-  refused_as Saw tries p q run_ends.Memory is = is
+  pub refused_as : (Saw : PassView M → Seen NamedDone → Type 0) (allows : List Done → Type 0) (tries : ℕ) (p q : PassView M) (end : RunEnd) → AfterFewer Saw tries p (λ r. IsLastEnd Saw allows r q end)
+      → IsRefusedRun Saw allows tries p q end
+  refused_as Saw allows tries p q (run_ends.Spent n last) is = absurd is.ends
+  refused_as Saw allows tries p q (run_ends.Full part values adding) is = is
+  refused_as Saw allows tries p q (run_ends.KeysFull map capacity) is = is
+  refused_as Saw allows tries p q run_ends.Memory is = is

@@ -6,6 +6,8 @@ use Rattle.tx_core.specs.declared.stop.Stop.{Stop}
 use Rattle.tx_core.specs.declared.stop.Stop.TheVariants.{Memory}
 use Rattle.tx_map.specs.declared.part.MapStop.{MapStop}
 use Rattle.tx_map.specs.declared.part.MapStop.TheVariants as maps
+use Rattle.tx_nest.specs.declared.tries.NestEnd.{NestEnd}
+use Rattle.tx_nest.specs.declared.tries.NestEnd.TheVariants as nests
 use Rattle.tx_store.specs.declared.run.BodyStop.{BodyStop}
 use Rattle.tx_store.specs.declared.run.BodyStop.TheVariants as stops
 use Rattle.tx_store.specs.Runs.{IsSameAttempt, IsBodyStop}
@@ -29,6 +31,16 @@ of_map map (maps.KeysFull capacity) = stops.KeysFull map capacity
 abbrev pub map_in_body : {A : Type 0} → ℕ → Result A MapStop → Result A BodyStop
 map_in_body map (Ok answer) = Ok answer
 map_in_body map (Err stop) = Err (of_map map stop)
+
+-- and of the children of one call
+abbrev pub of_nest : NestEnd → BodyStop
+of_nest (nests.Parent stop) = stops.Stop stop
+of_nest (nests.Spent tries last) = stops.Stop last
+of_nest nests.Memory = stops.Stop Memory
+
+abbrev pub nest_in_body : {A : Type 0} → Result A NestEnd → Result A BodyStop
+nest_in_body (Ok answer) = Ok answer
+nest_in_body (Err end) = Err (of_nest end)
 
 module _ {M : Type 0} (old new : TxView M) where
   -- these calls were answered, and further ones may follow

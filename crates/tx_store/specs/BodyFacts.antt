@@ -1,50 +1,67 @@
 -- Calls of a body one after another.
 use Rattle.std.proofs.Common.{◌≡◌, ℕ, ◌≤◌, List, [], ◌∷◌, ◌++◌, length, length-append, append_assoc, sym, refl, ap, ◌∙◌, subst, arith}
 use Rattle.std.proofs.lemmas.List.{append-nil}
-use Rattle.std.specs.Prelude.{Result, Ok, Err, None, Some, Option, false}
+use Rattle.std.specs.Prelude.{Result, Ok, Err, None, Some, Option, Bool, false}
 use Rattle.cell_table.specs.declared.view.Event.{Event}
 use Rattle.cell_table.specs.declared.view.View.{View}
-use Rattle.cell_table.specs.Pass.{PassState, trail_of}
+use Rattle.cell_table.specs.Pass.{PassState, IsSole, trail_of}
 use Rattle.cell_table.specs.Rule.{callers_of}
 use Rattle.cell_table.specs.Steps.{Grows}
-use Rattle.key_directory.specs.Directory.{PassView}
+use Rattle.key_directory.specs.Directory.{PassView, DirectoryView, AreAllOthers, steps_since}
 use Rattle.serial_terms.specs.declared.call.Done.{Done}
 use Rattle.serial_terms.specs.Renaming.{NamedDone, by_key}
 use Rattle.store_layout.specs.Shapes.{Shape, Object, IsCellOf}
-use Rattle.tx_core.specs.Calls.{HoldsAt, stop_in, memory_in}
+use Rattle.tx_core.specs.Calls.{HoldsAt, StepsAt, StopsAt, stop_in, memory_in}
 use Rattle.tx_core.specs.Causes.{CausedSince}
 use Rattle.tx_core.specs.declared.stop.Stop.{Stop}
 use Rattle.tx_core.specs.declared.stop.Stop.TheVariants.{Memory}
+use Rattle.tx_core.specs.declared.stop.TxState.TheVariants.{Running}
 use Rattle.tx_core.specs.Facts.{caused_earlier, grows_trans}
+use Rattle.tx_map.specs.declared.part.MapStop.{MapStop}
+use Rattle.tx_map.specs.declared.part.MapStop.TheVariants as maps
+use Rattle.tx_nest.specs.Attempts.{HasAdded, GoesOn, EndsAs}
+use Rattle.tx_nest.specs.declared.tries.NestEnd.{NestEnd}
+use Rattle.tx_nest.specs.declared.tries.NestEnd.TheVariants as nests
 use Rattle.tx_store.specs.declared.run.BodyStop.{BodyStop}
 use Rattle.tx_store.specs.declared.run.BodyStop.TheVariants as stops
-use Rattle.tx_store.specs.Bodies.{Does, StopsWith, Acts, in_body, memory_in_body}
-use Rattle.tx_store.specs.Calls.{IsCalled, done_in}
-use Rattle.tx_store.specs.ChildLaws.{keys_all, keys_then}
+use Rattle.store_parts.specs.Parts.{map_part}
+use Rattle.tx_store.specs.Bodies.{Does, StopsWith, Acts, in_body, memory_in_body, map_in_body, of_nest}
+use Rattle.tx_store.specs.Calls.{IsCalled, done_in, in_child}
+use Rattle.tx_store.specs.ChildLaws.{keys_all, keys_then, keys_claimed}
 use Rattle.tx_nest.specs.AttemptLaws.{grew_trans}
 use Rattle.tx_nest.specs.Ends.{Grew}
-use Rattle.tx_store.specs.Children.{KeysGrow}
+use Rattle.tx_store.specs.Children.{Fixed, KeysGrow, GrowsOn, view_of}
+use Rattle.tx_store.specs.MapCalls.{Told, IsCalledWithKey}
 use Rattle.tx_store.specs.Runs.{IsSameAttempt, IsStopBetween, IsFullBetween, IsBodyStop}
 use Rattle.tx_store.specs.Stores.{TxView}
 
 pub longer : {A : Type 0} (t u : List A) → (more : List A) × (u ≡ t ++ more) → length t ≤ length u
 longer t u a = let e = ap length a.1 in omega (arith, length-append t a.0)
 
-grew_all : (t : List Event) → Grew t t
+pub grew_all : (t : List Event) → Grew t t
 grew_all t = ([], sym (append-nil t))
 
-grows_all : {D : Type 0} {M : Type 0} (v : View M D) → Grows v v
+-- a view knows what it knows
+pub grows_all : {D : Type 0} {M : Type 0} (v : View M D) → Grows v v
 grows_all v = record { meaning = refl; opening = refl; total = refl; known = omega arith; values = λ t a. a; validations = λ t a. a }
 
-full_after : (j k l : PassView) (map capacity : ℕ) → KeysGrow j k → IsFullBetween k l map capacity → IsFullBetween j l map capacity
+pub full_after : (j k l : PassView) (map capacity : ℕ) → KeysGrow j k → IsFullBetween k l map capacity → IsFullBetween j l map capacity
 full_after j k l map capacity grow is =
     let longer = longer j.trail k.trail grow.trail in
     let since = is.since in
     record { all = is.all; key = is.key; first = is.first; next = is.next; rest = is.rest; steps = is.steps; since = omega arith; others = is.others }
 
-by_key_more : (ds : List NamedDone) (d : NamedDone) → by_key (ds ++ d ∷ []) ≡ by_key ds ++ d.done ∷ []
+pub by_key_more : (ds : List NamedDone) (d : NamedDone) → by_key (ds ++ d ∷ []) ≡ by_key ds ++ d.done ∷ []
 by_key_more [] d = refl
 by_key_more (x ∷ ds) d = ap (λ (es : List Done). x.done ∷ es) (by_key_more ds d)
+
+pub by_key_append : (ds es : List NamedDone) → by_key (ds ++ es) ≡ by_key ds ++ by_key es
+by_key_append [] es = refl
+by_key_append (d ∷ ds) es = ap (λ (xs : List Done). d.done ∷ xs) (by_key_append ds es)
+
+-- the call as it was answered, by its key
+abbrev pub done_of : Told → Bool → Done
+done_of told child = record { call = told.call; reply = told.reply; child = child }
 
 module _ {M : Type 0} where
   -- ---- the same attempt
@@ -80,11 +97,11 @@ module _ {M : Type 0} where
         keys = keys_then a.keys b.keys d.keys x.keys y.keys;
       }
 
-  -- what a call leaves of the pass, and of the pass of the directory
-  pub same_called : (P : ℕ → Type 0) (n : ℕ) (a b : TxView M) (stop : Option Stop) → HoldsAt P n a.attempt b.attempt stop → b.store ≡ a.store → b.attempt.committing ≡ false → KeysGrow a.keys b.keys → IsSameAttempt a b
-  same_called P n a b stop holds store early keys =
-      let goes = holds.does.pass in
-      let version = holds.does.version in
+  -- what steps leave of the pass, and of the pass of the directory
+  pub same_stepped : (P : ℕ → Type 0) (n : ℕ) (a b : TxView M) → StepsAt P n a.attempt b.attempt → b.store ≡ a.store → b.attempt.committing ≡ false → KeysGrow a.keys b.keys → IsSameAttempt a b
+  same_stepped P n a b does store early keys =
+      let goes = does.pass in
+      let version = does.version in
       record {
         store = store;
         before_commit = early;
@@ -93,9 +110,34 @@ module _ {M : Type 0} where
         draws = goes.draws;
         room = ap (λ (p : PassState M NamedDone). p.room) goes.is;
         version = omega arith;
-        trail = (holds.does.steps.0, holds.does.steps.1);
+        trail = (does.steps.0, does.steps.1);
         grows = goes.grows;
         keys = keys;
+      }
+
+  pub same_called : (P : ℕ → Type 0) (n : ℕ) (a b : TxView M) (stop : Option Stop) → HoldsAt P n a.attempt b.attempt stop → b.store ≡ a.store → b.attempt.committing ≡ false → KeysGrow a.keys b.keys → IsSameAttempt a b
+  same_called P n a b stop holds store early keys = same_stepped P n a b holds.does store early keys
+
+  pub same_keyed : {A : Type 0} (passes : ℕ → ℕ → Type 0) (s : Shape) (m key n : ℕ) (a b : TxView M) (told : A → Told) (result : Result A MapStop) → a.attempt.committing ≡ false
+      → IsCalledWithKey passes s m key n a b told result → IsSameAttempt a b
+  same_keyed passes s m key n a b told result early is =
+      same_stepped _ n a b is.looks.does is.same.store (is.same.committing ∙ early) (keys_claimed (map_part s m) passes key a.keys b.keys result is.keys)
+
+  -- what children leave
+  pub same_nested : (a b : TxView M) → GoesOn (view_of a) (view_of b) → GrowsOn a b → IsSameAttempt a b
+  same_nested a b goes grows =
+      let fixed = goes.same.fixed in
+      record {
+        store = grows.store;
+        before_commit = goes.same.before_commit;
+        books = ap (λ (f : Fixed). f.cells.books) fixed;
+        callers = ap (λ (f : Fixed). f.cells.told) fixed;
+        draws = ap (λ (f : Fixed). f.cells.draws) fixed;
+        room = ap (λ (f : Fixed). f.cells.room) fixed;
+        version = goes.version;
+        trail = goes.trail;
+        grows = grows.cells;
+        keys = grows.keys;
       }
 
   -- ---- stops
@@ -139,13 +181,14 @@ module _ {M : Type 0} where
   pub does_noted : (a b : TxView M) (d : NamedDone) → IsSameAttempt a b → b.attempt.state ≡ a.attempt.state → b.attempt.notes ≡ a.attempt.notes ++ d ∷ [] → Does a b (d.done ∷ [])
   does_noted a b d same state notes = record { same = same; state = state; noted = ap by_key notes ∙ by_key_more a.attempt.notes d }
 
+  pub stops_at : (P : ℕ → Type 0) (a b : TxView M) (stop : Stop) → StopsAt P a.attempt b.attempt stop → IsSameAttempt a b → StopsWith a b (stops.Stop stop)
+  stops_at P a b stop ends same = record {
+    same = same;
+    cause = record { version = a.attempt.version; low = omega arith; high = same.version; caused = ends.cause; sole = ends.sole };
+  }
+
   pub stops_called : (P : ℕ → Type 0) (n : ℕ) (a b : TxView M) (stop : Stop) → HoldsAt P n a.attempt b.attempt (Some stop) → IsSameAttempt a b → StopsWith a b (stops.Stop stop)
-  stops_called P n a b stop holds same =
-      let version = holds.does.version in
-      record {
-        same = same;
-        cause = record { version = a.attempt.version; low = omega arith; high = same.version; caused = holds.ends.cause; sole = holds.ends.sole };
-      }
+  stops_called P n a b stop holds same = stops_at P a b stop holds.ends same
 
   keys_stay : (a b : TxView M) → b.keys ≡ a.keys → KeysGrow a.keys b.keys
   keys_stay a b same = subst (λ (k : PassView). KeysGrow a.keys k) (sym same) (keys_all a.keys)
@@ -164,3 +207,70 @@ module _ {M : Type 0} where
       does_noted a b (told answer) (same_called (IsCellOf s o) n a b None is.holds is.same.store (is.same.committing ∙ early) (keys_stay a b is.same.keys)) is.holds.ends is.notes
   acts_remembered s o n a b told (Err memory) early is =
       stops_called (IsCellOf s o) n a b Memory is.holds (same_called (IsCellOf s o) n a b (Some Memory) is.holds is.same.store (is.same.committing ∙ early) (keys_stay a b is.same.keys))
+
+  -- a call on a map
+  pub acts_keyed : {A : Type 0} (passes : ℕ → ℕ → Type 0) (s : Shape) (m key n : ℕ) (a b : TxView M) (told : A → Told) (result : Result A MapStop) → a.attempt.committing ≡ false
+      → IsCalledWithKey passes s m key n a b told result → Acts a b (λ answer. done_of (told answer) (in_child a.attempt.state) ∷ []) (map_in_body m result)
+  acts_keyed passes s m key n a b told (Ok answer) early is = does_noted a b _ (same_keyed passes s m key n a b told (Ok answer) early is) is.looks.ends is.notes
+  acts_keyed passes s m key n a b told (Err (maps.Stop stop)) early is = stops_at _ a b stop is.looks.ends (same_keyed passes s m key n a b told (Err (maps.Stop stop)) early is)
+  acts_keyed passes s m key n a b told (Err (maps.KeysFull capacity)) early is =
+      let same = same_keyed passes s m key n a b told (Err (maps.KeysFull capacity)) early is in
+      let since = steps_since a.keys b.keys in
+      record {
+        same = same;
+        cause = record {
+          all = is.full.0;
+          key = key;
+          first = a.keys.trail;
+          next = since;
+          rest = [];
+          steps = is.keys.trail ∙ ap (λ more. a.keys.trail ++ more) (sym (append-nil since));
+          since = omega arith;
+          others = subst (λ (d : DirectoryView). AreAllOthers d.capacities since m key) (sym same.keys.directory) (is.keys.full.0 tt);
+        };
+      }
+
+  -- ---- children
+
+  -- the calls of a child that was committed are the body's, one after another
+  pub does_nested : (P : List NamedDone → Type 0) (a b : TxView M) → a.attempt.state ≡ Running → GoesOn (view_of a) (view_of b) → GrowsOn a b
+      → ((view_of b).state ≡ Running) × HasAdded P (view_of a) (view_of b) → (added : List NamedDone) × P added × Does a b (by_key added)
+  does_nested P a b running goes grows ends =
+      let added = ends.1.0 in (
+        added,
+        ends.1.2,
+        record {
+          same = same_nested a b goes grows;
+          state = ends.0 ∙ sym running;
+          noted = ap by_key ends.1.1 ∙ by_key_append a.attempt.notes added;
+        },
+      )
+
+  nested_cause : (tries : ℕ) (ran_out : Type 0) (a b : TxView M) → GoesOn (view_of a) (view_of b) → (end : NestEnd) → (IsSole a.attempt.pass → end ≡ nests.Memory)
+      → EndsAs tries ran_out (view_of a) (view_of b) end → IsBodyStop a b (of_nest end)
+  nested_cause tries ran_out a b goes (nests.Parent stop) sole ends = record {
+    version = b.attempt.version;
+    low = goes.version;
+    high = omega arith;
+    caused = ends.1.2;
+    sole = λ alone. let e : nests.Parent stop ≡ nests.Memory = sole alone in absurd (cc);
+  }
+  nested_cause tries ran_out a b goes (nests.Spent n last) sole ends = let cause = ends.2.1 in record {
+    version = cause.0;
+    low = cause.1;
+    high = cause.2;
+    caused = cause.3;
+    sole = λ alone. let e : nests.Spent n last ≡ nests.Memory = sole alone in absurd (cc);
+  }
+  nested_cause tries ran_out a b goes nests.Memory sole ends = record {
+    version = a.attempt.version;
+    low = omega arith;
+    high = goes.version;
+    caused = tt;
+    sole = λ alone. refl;
+  }
+
+  -- where none was committed, the body may stop with the cause
+  pub stops_nested : (tries : ℕ) (ran_out : Type 0) (a b : TxView M) → GoesOn (view_of a) (view_of b) → GrowsOn a b → (end : NestEnd) → (IsSole a.attempt.pass → end ≡ nests.Memory)
+      → EndsAs tries ran_out (view_of a) (view_of b) end → StopsWith a b (of_nest end)
+  stops_nested tries ran_out a b goes grows end sole ends = record { same = same_nested a b goes grows; cause = nested_cause tries ran_out a b goes end sole ends }

@@ -1,5 +1,5 @@
 -- What the calls on a store leave of an open child, and what the content of an attempt determines.
-use Rattle.std.specs.Prelude.{◌≡◌, ℕ, false, List, [], ◌++◌, length, Option, Some}
+use Rattle.std.specs.Prelude.{◌≡◌, ℕ, false, List, [], ◌∷◌, ◌++◌, length, Option, Some, Result, Ok, Err}
 use Rattle.std.proofs.Common.{ap, refl, ◌∙◌, sym, arith, subst, inr, length-append, append_assoc}
 use Rattle.std.proofs.Math.Path.{fun_ext}
 use Rattle.std.proofs.lemmas.List.{append-nil, take-append-le}
@@ -8,6 +8,8 @@ use Rattle.cell_table.specs.Pass.{PassState, IsSole}
 use Rattle.cell_table.specs.Rule.{callers_of}
 use Rattle.cell_table.specs.Steps.{Grows}
 use Rattle.key_directory.specs.Directory as keys
+use Rattle.key_directory.specs.Directory.{claim_of, steps_since}
+use Rattle.key_directory.specs.declared.view.Claim.{Claim}
 use Rattle.serial_terms.specs.Renaming.{NamedDone}
 use Rattle.store_layout.specs.Shapes.{Shape, Object}
 use Rattle.tx_core.specs.Calls.{StepsAt}
@@ -15,10 +17,16 @@ use Rattle.tx_core.specs.Children.{Marked}
 use Rattle.tx_core.specs.declared.stop.Stop.{Stop}
 use Rattle.tx_core.specs.Facts.{grows_trans}
 use Rattle.tx_core.specs.declared.stop.TxState.TheVariants.{Child}
+use Rattle.tx_map.specs.Calls.{Claims, ClaimsKey, UnlessFull, IfFull, position_of}
+use Rattle.tx_map.specs.declared.part.MapPart.{MapPart}
+use Rattle.tx_map.specs.declared.part.MapStop.{MapStop}
+use Rattle.tx_map.specs.declared.part.MapStop.TheVariants as maps
 use Rattle.tx_nest.specs.Attempts.{IsSame, HasSame, IsOpened, IsDropped, IsRaised, IsRefused, StaysInChild, IsBodyStop}
+use Rattle.store_parts.specs.Parts.{map_part}
 use Rattle.tx_store.specs.Calls.{KeepsMark, IsCalled}
 use Rattle.tx_nest.specs.OverTx as cells
 use Rattle.tx_store.specs.Children.{Content, Fixed, content_in, fixed_of, view_of, HasMark, KeysGrow, GrowsOn}
+use Rattle.tx_store.specs.MapCalls.{Told, IsCalledWithKey}
 use Rattle.tx_store.specs.Stores.{TxView}
 
 grew_then : {A : Type 0} (a b c : List A) → ((more : List A) × (b ≡ a ++ more)) → ((more : List A) × (c ≡ b ++ more)) → (more : List A) × (c ≡ a ++ more)
@@ -39,6 +47,22 @@ keys_then a b c p q = record {
 
 pub keys_same : (a b : keys.PassView) → b ≡ a → KeysGrow a b
 keys_same a b is = subst (λ (k : keys.PassView). KeysGrow a k) (sym is) (keys_all a)
+
+-- a call with a key claims one position at most
+claims_grew : {A : Type 0} (part : MapPart) (key : ℕ) (old new : keys.PassView) (result : Result A MapStop) → UnlessFull result (Claims part key old new)
+    → IfFull result (λ capacity. (capacity ≡ part.capacity) × (new.claims ≡ old.claims)) → (more : List Claim) × (new.claims ≡ old.claims ++ more)
+claims_grew part key old new (Ok answer) claimed refused = (claim_of part.region key (position_of part new key) ∷ [], claimed.claims)
+claims_grew part key old new (Err (maps.Stop stop)) claimed refused = (claim_of part.region key (position_of part new key) ∷ [], claimed.claims)
+claims_grew part key old new (Err (maps.KeysFull capacity)) claimed refused = ([], refused.1 ∙ sym (append-nil old.claims))
+
+pub keys_claimed : {A : Type 0} (part : MapPart) (passes : ℕ → ℕ → Type 0) (key : ℕ) (old new : keys.PassView) (result : Result A MapStop) → ClaimsKey part passes key old new result → KeysGrow old new
+keys_claimed part passes key old new result is = record {
+  directory = ap (λ (k : keys.PassView). k.directory) is.pass;
+  callers = ap (λ (k : keys.PassView). k.callers) is.pass;
+  room = ap (λ (k : keys.PassView). k.room) is.pass;
+  claims = claims_grew part key old new result is.claimed is.refused;
+  trail = (steps_since old new, is.trail);
+}
 
 -- contents are the same by their lists, and by what waits for each part
 pub same_content : (o p : Entries) (x y : Entries) (n k : List NamedDone) (h l : List (ℕ × ℕ)) (f g : ℕ → List ℕ)
@@ -113,6 +137,18 @@ module _ {M : Type 0} where
       → IsBodyStop (view_of a) (view_of b) stop
   stopped_in_child s o n a b dones stop called child =
       let ends = called.holds.ends in
+      record { child = inr (rw child at ends.state); cause = ends.cause }
+
+  -- the same of calls on a map
+  pub called_with_key_in_child : {A : Type 0} (passes : ℕ → ℕ → Type 0) (s : Shape) (m key n : ℕ) (a b : TxView M) (told : A → Told) (result : Result A MapStop)
+      → IsCalledWithKey passes s m key n a b told result → a.attempt.committing ≡ false → HasMark a → StaysInChild (view_of a) (view_of b) × HasMark b × GrowsOn a b
+  called_with_key_in_child passes s m key n a b told result called early has =
+      stays_in_child _ n a b _ called.same.store (keys_claimed (map_part s m) passes key a.keys b.keys result called.keys) called.looks.does called.notes called.same.committing called.same.child early has
+
+  pub stopped_with_key_in_child : {A : Type 0} (passes : ℕ → ℕ → Type 0) (s : Shape) (m key n : ℕ) (a b : TxView M) (told : A → Told) (stop : Stop)
+      → IsCalledWithKey passes s m key n a b told (Err (maps.Stop stop)) → a.attempt.state ≡ Child → IsBodyStop (view_of a) (view_of b) stop
+  stopped_with_key_in_child passes s m key n a b told stop called child =
+      let ends = called.looks.ends in
       record { child = inr (rw child at ends.state); cause = ends.cause }
 
   -- ---- what an attempt on the cells says of the one on the store, which has the same pass of the directory

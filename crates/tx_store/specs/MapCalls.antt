@@ -1,5 +1,6 @@
 -- What a call on a map leaves of an attempt on a store.
 use Rattle.std.specs.Prelude.{◌≡◌, ℕ, ◌++◌, Result, Ok, Err}
+use Rattle.key_directory.specs.Words.{capacity_of}
 use Rattle.serial_terms.specs.declared.call.Call.{Call}
 use Rattle.serial_terms.specs.declared.call.Reply.{Reply}
 use Rattle.store_layout.specs.Shapes.{Shape}
@@ -32,8 +33,8 @@ pub record IsCalledWithKey {M A : Type 0} (passes : ℕ → ℕ → Type 0) (s :
   pub looks : LooksAt (λ c. c ≡ cell_of (map_part s m) new.keys key) n old.attempt new.attempt (stop_in result)
   -- the key has a position from now on, and each other key the one that it had
   pub keys : ClaimsKey (map_part s m) passes key old.keys new.keys result
-  -- KeysFull leaves the attempt as it was
-  pub full : IfFull result (λ capacity. new.attempt ≡ old.attempt)
+  -- KeysFull names the number of the map's keys, and leaves the attempt as it was
+  pub full : IfFull result (λ capacity. (capacity ≡ capacity_of new.keys.directory.capacities m) × (new.attempt ≡ old.attempt))
   pub same : SameAttempt old new
 
 -- where it was stopped, it was by want of memory

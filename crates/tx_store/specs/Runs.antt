@@ -136,25 +136,27 @@ module _ {M : Type 0} where
       pub books : pass.pass.books ≡ p.pass.books
       pub ends : P pass
 
-    -- An attempt that began with the one pass and left the other was ended so: its commit found a part full, or its body a map, or memory
-    -- was wanting
-    abbrev pub IsLastEnd : PassView M → PassView M → RunEnd → Type 0
-    IsLastEnd p q (run_ends.Spent n last) = ⊥
-    IsLastEnd p q (run_ends.Full part values adding) = (seen : Seen NamedDone) × (seen.end ≡ Full part values adding) × Saw q seen
-    IsLastEnd p q (run_ends.KeysFull map capacity) = IsFullBetween p.keys q.keys map capacity
-    IsLastEnd p q run_ends.Memory = Unit {0}
+    -- `allows` says which calls a record may have
+    module _ (allows : List Done → Type 0) where
+      -- An attempt that began with the one pass and left the other was ended so: its commit found a part full, behind calls that a record
+      -- may have, or its body a map, or memory was wanting
+      abbrev pub IsLastEnd : PassView M → PassView M → RunEnd → Type 0
+      IsLastEnd p q (run_ends.Spent n last) = ⊥
+      IsLastEnd p q (run_ends.Full part values adding) = (seen : Seen NamedDone) × (seen.end ≡ Full part values adding) × allows (by_key seen.dones) × Saw q seen
+      IsLastEnd p q (run_ends.KeysFull map capacity) = IsFullBetween p.keys q.keys map capacity
+      IsLastEnd p q run_ends.Memory = Unit {0}
 
-    -- Why no attempt was committed: as many as asked for ended by Held or Newer, or after fewer of these one ended otherwise
-    abbrev pub IsRefusedRun : ℕ → PassView M → PassView M → RunEnd → Type 0
-    IsRefusedRun tries p q (run_ends.Spent n last) = (n ≡ tries) × AttemptsEnded n p last q
-    IsRefusedRun tries p q (run_ends.Full part values adding) = AfterFewer tries p (λ r. IsLastEnd r q (run_ends.Full part values adding))
-    IsRefusedRun tries p q (run_ends.KeysFull map capacity) = AfterFewer tries p (λ r. IsLastEnd r q (run_ends.KeysFull map capacity))
-    IsRefusedRun tries p q run_ends.Memory = AfterFewer tries p (λ r. Unit {0})
+      -- Why no attempt was committed: as many as asked for ended by Held or Newer, or after fewer of these one ended otherwise
+      abbrev pub IsRefusedRun : ℕ → PassView M → PassView M → RunEnd → Type 0
+      IsRefusedRun tries p q (run_ends.Spent n last) = (n ≡ tries) × AttemptsEnded n p last q
+      IsRefusedRun tries p q (run_ends.Full part values adding) = AfterFewer tries p (λ r. IsLastEnd r q (run_ends.Full part values adding))
+      IsRefusedRun tries p q (run_ends.KeysFull map capacity) = AfterFewer tries p (λ r. IsLastEnd r q (run_ends.KeysFull map capacity))
+      IsRefusedRun tries p q run_ends.Memory = AfterFewer tries p (λ r. Unit {0})
 
-    -- how one attempt ended that wasn't committed
-    abbrev pub IsTryEnd : PassView M → PassView M → TryEnd → Type 0
-    IsTryEnd p q (Again stop) = AttemptEnded p stop q
-    IsTryEnd p q (Ends end) = IsLastEnd p q end
+      -- how one attempt ended that wasn't committed
+      abbrev pub IsTryEnd : PassView M → PassView M → TryEnd → Type 0
+      IsTryEnd p q (Again stop) = AttemptEnded p stop q
+      IsTryEnd p q (Ends end) = IsLastEnd p q end
 
 -- not every attempt was ended by Held or Newer
 abbrev pub IsNotSpent : RunEnd → Type 0

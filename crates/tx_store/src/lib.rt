@@ -25,12 +25,13 @@ mod store;
 mod tests;
 mod tx;
 
+pub use cell_table::Entry;
 pub use close::History;
 pub use commit::{CommitEnd, Receipt};
 pub use pass::StorePass;
 pub use run::{Body, BodyStop, RunEnd, atomically};
 pub use store::Store;
 pub use store_layout::{LayoutEnd as OpenEnd, Spot};
-pub use store_meaning::{Anything, Purpose};
+pub use store_meaning::{Anything, Noted, Purpose};
 pub use tx::StoreTx;
 pub use tx_map::MapStop;

@@ -1,12 +1,12 @@
 //! A pass of a store.
-ghost use Rattle.std.specs.Prelude.{◌≡◌, ◌+◌, ◌<◌, ◌≤◌, ◌↔◌, length, IsTrue, IfOk, OnOk, OnErr};
+ghost use Rattle.std.specs.Prelude.{◌≡◌, ◌+◌, ◌<◌, ◌≤◌, ◌↔◌, [], length, slice_index_or, IsTrue, IfOk, OnOk, OnErr};
 
 use crate::store::Store;
-use cell_table::Pass;
+use cell_table::{Entry, Pass};
 use key_directory::KeyPass;
 use std::alloc::{AllocError, Global};
 use std::marker::Model;
-use store_meaning::{Purpose, StoreMeaning};
+use store_meaning::{Noted, Purpose, StoreMeaning};
 
 /// The caller numbers under which its owner transacts, with their books and the positions of keys that they claimed.
 #[derive(Drop)]
@@ -27,6 +27,7 @@ impl<P: Purpose> Model for StorePass<P> {
 
 impl<P: Purpose> StorePass<P> {
     ghost use Rattle.cell_table.specs.Pass.{IsSole, acting};
+    ghost use Rattle.cell_table.specs.Seats.{noted_all};
     ghost use Rattle.cell_table.specs.Steps.{IsIdle};
     ghost use Rattle.tx_store.specs.Known.{KnowsHistory};
     ghost use Rattle.tx_store.specs.Parting.{IsKeptPart, IsNewPart, IsJoined};
@@ -66,6 +67,14 @@ impl<P: Purpose> StorePass<P> {
         ensures { result ≡ self.now.pass.room }
     {
         self.pass.room()
+    }
+
+    /// The records of the held-th of its caller numbers, in ascending order, the oldest record first. The acting one is the 0th.
+    pub fn records(&self, held: u32) -> &[Entry<Noted>]
+        requires { held < length self.now.pass.books }
+        ensures { noted_all result.now ≡ (slice_index_or self.now.pass.books held (record { caller = 0; entries = [] })).entries }
+    {
+        self.pass.entries(held)
     }
 
     /// Whether it holds every caller number of the store.

@@ -14,10 +14,12 @@ use crate::commit::CommitEnd;
 use crate::pass::StorePass;
 use crate::store::Store;
 use crate::tx::StoreTx;
-use std::alloc::Global;
+use std::alloc::{AllocError, Global};
 use std::thread;
 use store_meaning::Purpose;
 use tx_core::Stop;
+use tx_map::MapStop;
+use tx_nest::NestEnd;
 
 /// Why a body could not go on.
 #[derive(Clone, Copy, Debug, PartialEq, Eq)]
@@ -26,6 +28,56 @@ pub enum BodyStop {
     Stop(Stop),
     /// A call found every position of the map, of this capacity, with another key.
     KeysFull { map: u32, capacity: u32 },
+}
+
+impl BodyStop {
+    ghost use Rattle.tx_store.specs.Bodies.{of_map};
+
+    /// What a call on this map answered.
+    pub fn of_map(map: u32, stop: MapStop) -> BodyStop
+        ensures { result ≡ of_map map stop }
+    {
+        match stop {
+            MapStop::Stop(stop) => BodyStop::Stop(stop),
+            MapStop::KeysFull { capacity } => BodyStop::KeysFull { map, capacity },
+        }
+    }
+}
+
+impl From<Stop> for BodyStop {
+    ghost use Rattle.tx_store.specs.declared.run.BodyStop.TheVariants.{Stop};
+
+    ghost from_gives = { λ stop e. e ≡ Stop stop };
+
+    fn from(stop: Stop) -> BodyStop {
+        BodyStop::Stop(stop)
+    }
+}
+
+impl From<AllocError> for BodyStop {
+    ghost use Rattle.tx_core.specs.declared.stop.Stop.TheVariants.{Memory};
+    ghost use Rattle.tx_store.specs.declared.run.BodyStop.TheVariants.{Stop};
+
+    ghost from_gives = { λ _ e. e ≡ Stop Memory };
+
+    fn from(_: AllocError) -> BodyStop {
+        BodyStop::Stop(Stop::Memory)
+    }
+}
+
+/// A body whose children were all in vain stops with the cause of the last.
+impl From<NestEnd> for BodyStop {
+    ghost use Rattle.tx_store.specs.Bodies.{of_nest};
+
+    ghost from_gives = { λ end e. e ≡ of_nest end };
+
+    fn from(end: NestEnd) -> BodyStop {
+        match end {
+            NestEnd::Parent(stop) => BodyStop::Stop(stop),
+            NestEnd::Spent { tries: _, last } => BodyStop::Stop(last),
+            NestEnd::Memory => BodyStop::Stop(Stop::Memory),
+        }
+    }
 }
 
 /// Why no attempt was committed.
@@ -80,7 +132,7 @@ pub fn atomically<P: Purpose, B: Body<P>>(
     requires tries { (0 < tries) × (tries ≤ pass.pass.view.draws) }
     requires can_run { B.can_run body.old store.now }
     ensures committed { IfOk result (λ r. AfterFewer (Vouches P.lawful_state store.now.table.meaning) tries pass (λ before. IsCommittedRun (P.allowed store.now.table.meaning.purpose) (B.runs body.old) before r.0 r.1)) }
-    ensures refused { IfErr result (λ r. (r.0.pass.books ≡ pass.pass.books) × IsRefusedRun (Vouches P.lawful_state store.now.table.meaning) tries pass r.0 r.1) }
+    ensures refused { IfErr result (λ r. (r.0.pass.books ≡ pass.pass.books) × IsRefusedRun (Vouches P.lawful_state store.now.table.meaning) (P.allowed store.now.table.meaning.purpose) tries pass r.0 r.1) }
     ensures left { IfOk result (λ r. IsLeft store.now tries pass r.0) }
     ensures left_refused { IfErr result (λ r. IsLeft store.now tries pass r.0) }
     ensures sole { IsSole pass.pass → IfErr result (λ r. IsNotSpent r.1) }
@@ -156,7 +208,7 @@ fn once<P: Purpose, B: Body<P>>(
     requires draw { 0 < pass.pass.view.draws }
     requires can_run { B.can_run body.old store.now }
     ensures committed { IfOk result (λ r. IsCommittedRun (P.allowed store.now.table.meaning.purpose) (B.runs body.old) pass r.0 r.1) }
-    ensures refused { IfErr result (λ r. (r.0.pass.books ≡ pass.pass.books) × IsTryEnd (Vouches P.lawful_state store.now.table.meaning) pass r.0 r.1) }
+    ensures refused { IfErr result (λ r. (r.0.pass.books ≡ pass.pass.books) × IsTryEnd (Vouches P.lawful_state store.now.table.meaning) (P.allowed store.now.table.meaning.purpose) pass r.0 r.1) }
     ensures left { IfOk result (λ r. IsLeft store.now 1 pass r.0) }
     ensures left_refused { IfErr result (λ r. IsLeft store.now 1 pass r.0) }
     ensures sole { IsSole pass.pass → IfErr result (λ r. IsNotAgain r.1) }

@@ -74,6 +74,13 @@ impl<P: Purpose> Store<P> {
         Ok((Store { table, directory }, StorePass { pass, keys }))
     }
 
+    /// The directory has a region for each map, with as many positions as the map has keys. It does nothing; what it ensures is the law.
+    pub fn capacities_law(&self)
+        ensures { self.now.directory.capacities ≡ self.now.table.meaning.plan.maps }
+    {
+        let _ = &self.table;
+    }
+
     /// Where the cells of its structures are.
     pub(crate) fn plan(&self) -> &CellPlan
         ensures plan { result.now ≡ self.now.table.meaning.plan }

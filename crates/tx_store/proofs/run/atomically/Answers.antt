@@ -26,10 +26,10 @@ pub returns-in-Ends-clause-refused : goal.returns-in-Ends-clause-refused
 returns-in-Ends-clause-refused g c =
     let so_far = c.loop-tried.invariant in
     let refused = c.in-Err.ensures.refused in
-    let ended : IsTryEnd (Vouches g.P.Purpose.lawful_state c.args.store.now.table.meaning) c.loop-tried.pass c.in-Err.refused.0 c.in-Err.refused.1 = refused.1 in
-    let last : IsLastEnd (Vouches g.P.Purpose.lawful_state c.args.store.now.table.meaning) c.loop-tried.pass c.in-Err.refused.0 c.in-Ends.end = rw c.in-Ends.is at ended in (
+    let ended : IsTryEnd (Vouches g.P.Purpose.lawful_state c.args.store.now.table.meaning) (g.P.Purpose.allowed c.args.store.now.table.meaning.purpose) c.loop-tried.pass c.in-Err.refused.0 c.in-Err.refused.1 = refused.1 in
+    let last : IsLastEnd (Vouches g.P.Purpose.lawful_state c.args.store.now.table.meaning) (g.P.Purpose.allowed c.args.store.now.table.meaning.purpose) c.loop-tried.pass c.in-Err.refused.0 c.in-Ends.end = rw c.in-Ends.is at ended in (
       refused.0 ∙ so_far.books,
-      refused_as (Vouches g.P.Purpose.lawful_state c.args.store.now.table.meaning) c.args.tries c.args.pass c.in-Err.refused.0 c.in-Ends.end (record {
+      refused_as (Vouches g.P.Purpose.lawful_state c.args.store.now.table.meaning) (g.P.Purpose.allowed c.args.store.now.table.meaning.purpose) c.args.tries c.args.pass c.in-Err.refused.0 c.in-Ends.end (record {
         before = c.loop-tried.tried;
         few = c.loop-tried-test.true;
         last = c.loop-tried.last;

@@ -3,7 +3,7 @@ use Rattle.std.specs.Prelude.{Err}
 use Rattle.serial_terms.specs.declared.call.Call.TheVariants.{MapPut}
 use Rattle.serial_terms.specs.declared.call.Reply.TheVariants.{Nothing}
 use Rattle.tx_core.specs.declared.stop.Stop.TheVariants.{Memory}
-use Rattle.key_directory.specs.Directory.{PassView}
+use Rattle.key_directory.specs.Directory.{PassView, DirectoryView}
 use Rattle.tx_store.proofs.KeyPairing.{paired_claimed, paired_full, claimed_now}
 use Rattle.tx_store.proofs.MapCalls.{key_called, key_stopped, key_refused, may_name, refused_blind, as_seen}
 use Rattle.tx_store.proofs.Pairing.{paired_call, told}
@@ -17,7 +17,7 @@ pub returns-in-Err-clause-called : goal.returns-in-Err-clause-called
 returns-in-Err-clause-called g c =
     let s = c.plan-plan.result.now in let m = c.args.map in let key = c.args.key in
     as_seen g.P.Keys.KeyTest.passes m key 0 _ c.args.self.now _ (λ _. record { call = MapPut m key c.args.value; reply = Nothing }) (Err c.in-Err.full) s c.self.view_is c.plan-plan.ensures.plan
-    (key_refused g.P.Keys.KeyTest.passes s m key 0 c.map_of-part.result c.map_of-part.ensures.part _ _ (λ _. record { call = MapPut m key c.args.value; reply = Nothing }) refl c.in-Err.full c.in-Err.ensures.never_stopped c.in-Err.ensures.keys refl)
+    (key_refused g.P.Keys.KeyTest.passes s m key 0 c.map_of-part.result c.map_of-part.ensures.part _ _ (λ _. record { call = MapPut m key c.args.value; reply = Nothing }) refl c.in-Err.full c.in-Err.ensures.never_stopped c.in-Err.ensures.keys (ap (λ (d : DirectoryView). d.capacities) c.self.invariant.1 ∙ c.plan-plan.ensures.regions) refl)
 
 pub returns-clause-called : goal.returns-clause-called
 returns-clause-called g c =

@@ -2,7 +2,7 @@ use Rattle.std.proofs.Common.{refl, ap, ◌∙◌}
 use Rattle.std.specs.Prelude.{Err}
 use Rattle.serial_terms.specs.declared.call.Call.TheVariants.{MapPutIfAbsent}
 use Rattle.serial_terms.specs.Serial.{found}
-use Rattle.key_directory.specs.Directory.{PassView}
+use Rattle.key_directory.specs.Directory.{PassView, DirectoryView}
 use Rattle.tx_store.proofs.KeyPairing.{paired_claimed, paired_full, claimed_now}
 use Rattle.tx_store.proofs.MapCalls.{key_called, key_stopped, key_refused, may_name, as_seen}
 use Rattle.tx_store.proofs.Pairing.{paired_call, told}
@@ -16,7 +16,7 @@ pub returns-in-Err : goal.returns-in-Err
 returns-in-Err g c =
     let s = c.plan-plan.result.now in let m = c.args.map in let key = c.args.key in
     as_seen g.P.Keys.KeyTest.passes m key 3 _ c.args.self.now _ (λ there. record { call = MapPutIfAbsent m key c.args.value; reply = found there }) (Err c.in-Err.full) s c.self.view_is c.plan-plan.ensures.plan
-    (key_refused g.P.Keys.KeyTest.passes s m key 3 c.map_of-part.result c.map_of-part.ensures.part _ _ (λ there. record { call = MapPutIfAbsent m key c.args.value; reply = found there }) refl c.in-Err.full c.in-Err.ensures.never_stopped c.in-Err.ensures.keys refl)
+    (key_refused g.P.Keys.KeyTest.passes s m key 3 c.map_of-part.result c.map_of-part.ensures.part _ _ (λ there. record { call = MapPutIfAbsent m key c.args.value; reply = found there }) refl c.in-Err.full c.in-Err.ensures.never_stopped c.in-Err.ensures.keys (ap (λ (d : DirectoryView). d.capacities) c.self.invariant.1 ∙ c.plan-plan.ensures.regions) refl)
 
 pub returns : goal.returns
 returns g c =
