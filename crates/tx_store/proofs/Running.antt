@@ -1,6 +1,8 @@
 -- How an attempt of one call ends, from its begin to the pass that it leaves.
 use Rattle.std.proofs.Common.{◌≡◌, ℕ, suc, ◌+◌, ◌-◌, ◌<◌, ◌≤◌, Bool, true, false, List, [], ◌∷◌, ◌++◌, length, length-append, append_assoc, Some, refl, sym, ap, ◌∙◌, subst, arith}
 use Rattle.std.specs.Prelude.{slice_get, if◌then◌else◌}
+use mathlib.Core.Logic.{dite}
+use native.Mathlib.Decide.{dec_lt}
 use Rattle.cell_table.specs.declared.view.Event.{Event}
 use Rattle.cell_table.specs.declared.view.Event.TheVariants.{ClockLoaded}
 use Rattle.cell_table.specs.declared.view.NotedBook.{NotedBook}
@@ -10,12 +12,12 @@ use Rattle.cell_table.specs.Rule.{callers_of}
 use Rattle.cell_table.specs.Steps.{IsIdle, Grows, clocked}
 use Rattle.serial_terms.specs.declared.sight.SightEnd.{SightEnd}
 use Rattle.serial_terms.specs.declared.sight.SightEnd.TheVariants.{Refused, Full}
-use Rattle.serial_terms.specs.declared.call.Done.{Done}
-use Rattle.serial_terms.specs.Renaming.{NamedDone, by_key}
+use Rattle.serial_terms.specs.Renaming.{NamedDone}
 use Rattle.serial_terms.specs.Serial.{State}
 use Rattle.serial_terms.specs.Sights.{Seen}
 use Rattle.store_layout.specs.Shapes.{Shape}
 use Rattle.store_meaning.specs.declared.meaning.StoreMeaning.{StoreMeaning}
+use Rattle.tx_core.specs.Calls.{waiting}
 use Rattle.tx_core.specs.Causes.{CausedSince, IsFound, GrewBy}
 use Rattle.tx_core.specs.declared.stop.Stop.{Stop}
 use Rattle.tx_core.specs.declared.stop.Stop.TheVariants.{Held, Newer, Memory}
@@ -26,7 +28,7 @@ use Rattle.tx_store.specs.declared.commit.CommitEnd.TheVariants as commits
 use Rattle.tx_store.specs.declared.commit.Receipt.{Receipt}
 use Rattle.tx_store.specs.declared.run.BodyStop.{BodyStop}
 use Rattle.tx_store.specs.declared.run.BodyStop.TheVariants as stops
-use Rattle.tx_store.specs.Commits.{HasCause, IsCommitted, IsRefused, SeesCalls}
+use Rattle.tx_store.specs.Commits.{HasCause, IsFullAt, IsCommitted, IsRefused, SeesCalls}
 use Rattle.tx_store.specs.Known.{Vouches}
 use Rattle.tx_nest.specs.Ends.{Grew}
 use Rattle.tx_store.specs.Children.{KeysGrow}
@@ -140,7 +142,7 @@ module _ {M : Type 0} where
     after_begin : length (trail_of t.attempt.pass) ≡ suc (length (trail_of p.pass))
     after_begin = ap length begins.loaded ∙ (let e = length-append (trail_of p.pass) (ClockLoaded t.attempt.version ∷ []) in omega arith)
 
-    module _ (Saw : PassView M → Seen NamedDone → Type 0) (allows : List Done → Type 0) (seen : Seen NamedDone) (there : u.attempt.version ≤ seen.place) (saw : Saw q seen) where
+    module _ (Saw : PassView M → Seen NamedDone → Type 0) (parts : ℕ) (answered : List NamedDone → Type 0) (seen : Seen NamedDone) (there : u.attempt.version ≤ seen.place) (saw : Saw q seen) where
       -- the attempt was ended by Held or Newer, at a version that it had between its begin and its end
       pub ended : (stop : Stop) → IsFound stop → (w n : ℕ) → t.attempt.version ≤ w → w ≤ u.attempt.version → length (trail_of t.attempt.pass) ≤ n
           → CausedSince (callers_of t.attempt.pass.view.books) w n (trail_of q.pass) stop → AttemptEnded Saw p stop q
@@ -163,7 +165,7 @@ module _ {M : Type 0} where
       body_ended stop found is = ended stop found is.version (length (trail_of t.attempt.pass)) is.low is.high (omega arith)
           (caused_more (callers_of t.attempt.pass.view.books) is.version (length (trail_of t.attempt.pass)) (trail_of u.attempt.pass) (trail_of q.pass) stop ends.trail is.caused)
 
-      pub stopped : (stop : BodyStop) → IsBodyStop t u stop → IsTryEnd Saw allows p q (after_stop stop)
+      pub stopped : (stop : BodyStop) → IsBodyStop t u stop → IsTryEnd Saw parts answered p q (after_stop stop)
       stopped (stops.Stop (Held cell owner)) is = body_ended (Held cell owner) tt is
       stopped (stops.Stop (Newer cell found)) is = body_ended (Newer cell found) tt is
       stopped (stops.Stop Memory) is = tt
@@ -230,22 +232,34 @@ module _ {P K : Type 0} where
     at_store store s q seen e vouches = subst (λ z. Vouches lawful_state z.table.meaning q seen) e vouches
 
     pub refused : (store : StoreView (StoreMeaning P K)) (p : PassView (StoreMeaning P K)) (t u : TxView (StoreMeaning P K)) (q : PassView (StoreMeaning P K)) → Begins store p t → IsSameAttempt t u
-        → (allows : List Done → Type 0) → allows (by_key u.attempt.notes) → (end : CommitEnd) → IsRefused lawful_state u q end → IsTryEnd (Vouches lawful_state store.table.meaning) allows p q (after_refusal end)
-    refused store p t u q begins same allows allowed end is = by_end end is
+        → (parts : ℕ) (answered : List NamedDone → Type 0) → ((part : ℕ) → parts ≤ part → waiting part u.attempt ≡ []) → answered u.attempt.notes → (end : CommitEnd) → IsRefused lawful_state u q end
+        → IsTryEnd (Vouches lawful_state store.table.meaning) parts answered p q (after_refusal end)
+    refused store p t u q begins same parts answered none_waits is_answered end is = by_end end is
       where
         stopped_by : (end : CommitEnd) → IsRefused lawful_state u q end → (place : ℕ) → place ≡ u.attempt.version → (kind : SightEnd) → SeesCalls lawful_state u q place kind
             → (stop : Stop) → IsFound stop → CausedSince (callers_of u.attempt.pass.view.books) u.attempt.version (length (trail_of u.attempt.pass)) (trail_of q.pass) stop → AttemptEnded (Vouches lawful_state store.table.meaning) p stop q
         stopped_by end is place at kind sees stop found caused =
             let low = same.version in
             let grew = longer _ _ same.trail in
-            ended store p t u q begins same (ends_refused u q end is) (Vouches lawful_state store.table.meaning) allows (record { caller = 0; after = 0; place = place; end = kind; dones = u.attempt.notes }) (omega arith)
+            ended store p t u q begins same (ends_refused u q end is) (Vouches lawful_state store.table.meaning) parts answered (record { caller = 0; after = 0; place = place; end = kind; dones = u.attempt.notes }) (omega arith)
             (at_store store u.store q _ (same.store ∙ begins.store) (sees 0 0)) stop found u.attempt.version (length (trail_of u.attempt.pass)) low (omega arith) (omega arith)
             (subst (λ books. CausedSince (callers_of books) u.attempt.version (length (trail_of u.attempt.pass)) (trail_of q.pass) stop) same.callers caused)
 
-        by_end : (end : CommitEnd) → IsRefused lawful_state u q end → IsTryEnd (Vouches lawful_state store.table.meaning) allows p q (after_refusal end)
+        -- what isn't waited for isn't added
+        full_there : (part place values adding : ℕ) → IsFullAt u.store.table.meaning.plan u.attempt q.pass place part values adding → part < parts
+        full_there part place values adding full = dite (dec_lt part parts) (λ low. low)
+            (λ no. let none = ap length (none_waits part (omega arith)) in let adds = full.adds in let some = full.some in omega arith)
+
+        by_end : (end : CommitEnd) → IsRefused lawful_state u q end → IsTryEnd (Vouches lawful_state store.table.meaning) parts answered p q (after_refusal end)
         by_end (commits.Held cell owner) is = stopped_by (commits.Held cell owner) is is.refuses.place is.refuses.cause.0 Refused is.sees (Held cell owner) tt is.refuses.cause.1.cause
         by_end (commits.Newer cell found) is = stopped_by (commits.Newer cell found) is is.refuses.place is.refuses.cause.0 Refused is.sees (Newer cell found) tt is.refuses.cause.1.cause
-        by_end (commits.Full part values adding) is = (record { caller = 0; after = 0; place = is.refuses.place; end = Full part values adding; dones = u.attempt.notes }, refl, allowed, at_store store u.store q _ (same.store ∙ begins.store) (is.sees 0 0))
+        by_end (commits.Full part values adding) is = record {
+          there = full_there part is.refuses.place values adding is.refuses.cause;
+          seen = record { caller = 0; after = 0; place = is.refuses.place; end = Full part values adding; dones = u.attempt.notes };
+          end = refl;
+          calls = is_answered;
+          saw = at_store store u.store q _ (same.store ∙ begins.store) (is.sees 0 0);
+        }
 
     pub refusal_not_again : (u : TxView (StoreMeaning P K)) (q : PassView (StoreMeaning P K)) → IsSole u.attempt.pass → (end : CommitEnd) → IsRefused lawful_state u q end → IsNotAgain (after_refusal end)
     refusal_not_again u q alone (commits.Held cell owner) is = is.refuses.sole alone

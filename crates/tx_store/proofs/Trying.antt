@@ -10,7 +10,7 @@ use Rattle.tx_store.specs.declared.run.RunEnd.{RunEnd}
 use Rattle.tx_store.specs.declared.run.RunEnd.TheVariants as run_ends
 use Rattle.tx_store.specs.ChildLaws.{keys_then}
 use Rattle.tx_nest.specs.AttemptLaws.{grew_trans}
-use Rattle.tx_store.specs.Runs.{IsLeft, AfterFewer, IsLastEnd, IsRefusedRun, IsCommittedRun}
+use Rattle.tx_store.specs.Runs.{IsLeft, AfterFewer, IsAnswered, IsLastEnd, IsRefusedRun, IsCommittedRun}
 use Rattle.tx_store.specs.Stores.{StoreView, PassView}
 
 module _ {M : Type 0} where
@@ -37,9 +37,23 @@ module _ {M : Type 0} where
       → IsCommittedRun allows runs p q out → IsCommittedRun allows earlier p q out
   ran_by allows runs earlier p q out same is = record { writer = is.writer; content = is.content; books = is.books; allowed = is.allowed; ran = same _ is.ran }
 
-  pub refused_as : (Saw : PassView M → Seen NamedDone → Type 0) (allows : List Done → Type 0) (tries : ℕ) (p q : PassView M) (end : RunEnd) → AfterFewer Saw tries p (λ r. IsLastEnd Saw allows r q end)
-      → IsRefusedRun Saw allows tries p q end
-  refused_as Saw allows tries p q (run_ends.Spent n last) is = absurd is.ends
-  refused_as Saw allows tries p q (run_ends.Full part values adding) is = is
-  refused_as Saw allows tries p q (run_ends.KeysFull map capacity) is = is
-  refused_as Saw allows tries p q run_ends.Memory is = is
+  -- what one body's calls may be, those of an earlier one may be
+  pub last_by : {O : Type 0} (Saw : PassView M → Seen NamedDone → Type 0) (parts : ℕ) (allows : List Done → Type 0) (runs earlier : List Done → O → Type 0) (p q : PassView M) (end : RunEnd)
+      → ((calls : List Done) (out : O) → runs calls out → earlier calls out) → IsLastEnd Saw parts (IsAnswered allows runs) p q end → IsLastEnd Saw parts (IsAnswered allows earlier) p q end
+  last_by Saw parts allows runs earlier p q (run_ends.Spent n last) same is = is
+  last_by Saw parts allows runs earlier p q (run_ends.Full part values adding) same is = record {
+    there = is.there;
+    seen = is.seen;
+    end = is.end;
+    calls = record { allowed = is.calls.allowed; placed = is.calls.placed; answer = is.calls.answer; ran = same _ is.calls.answer is.calls.ran };
+    saw = is.saw;
+  }
+  last_by Saw parts allows runs earlier p q (run_ends.KeysFull map capacity) same is = is
+  last_by Saw parts allows runs earlier p q run_ends.Memory same is = is
+
+  pub refused_as : (Saw : PassView M → Seen NamedDone → Type 0) (parts : ℕ) (answered : List NamedDone → Type 0) (tries : ℕ) (p q : PassView M) (end : RunEnd) → AfterFewer Saw tries p (λ r. IsLastEnd Saw parts answered r q end)
+      → IsRefusedRun Saw parts answered tries p q end
+  refused_as Saw parts answered tries p q (run_ends.Spent n last) is = absurd is.ends
+  refused_as Saw parts answered tries p q (run_ends.Full part values adding) is = is
+  refused_as Saw parts answered tries p q (run_ends.KeysFull map capacity) is = is
+  refused_as Saw parts answered tries p q run_ends.Memory is = is

@@ -10,7 +10,7 @@ use Rattle.key_directory.specs.Directory.{AreAllOthers}
 use Rattle.key_directory.specs.declared.view.Step.{Step}
 use Rattle.key_directory.specs.Words.{capacity_of}
 use Rattle.serial_terms.specs.declared.call.Done.{Done}
-use Rattle.serial_terms.specs.Renaming.{NamedDone, by_key}
+use Rattle.serial_terms.specs.Renaming.{NamedDone, by_key, by_name}
 use Rattle.serial_terms.specs.declared.sight.SightEnd.TheVariants.{Full}
 use Rattle.serial_terms.specs.Sights.{Seen}
 use Rattle.tx_core.specs.Calls.{NothingWaits}
@@ -83,6 +83,13 @@ module _ {M : Type 0} where
 
 -- ---- the attempts of one call
 
+-- The calls with which a body answered: a record may have them, by their keys and by the keys' positions, and the body may run so
+pub record IsAnswered {O : Type 0} (allows : List Done → Type 0) (runs : List Done → O → Type 0) (notes : List NamedDone) : Type 0 where
+  pub allowed : allows (by_key notes)
+  pub placed : allows (by_name notes)
+  pub answer : O
+  pub ran : runs (by_key notes) answer
+
 module _ {M : Type 0} where
   -- What is left of a pass in any case: a pass of the store, which is idle, has the caller numbers and the room that it had, has used
   -- at most so many draws, and vouches for all that it vouched for
@@ -136,13 +143,20 @@ module _ {M : Type 0} where
       pub books : pass.pass.books ≡ p.pass.books
       pub ends : P pass
 
-    -- `allows` says which calls a record may have
-    module _ (allows : List Done → Type 0) where
-      -- An attempt that began with the one pass and left the other was ended so: its commit found a part full, behind calls that a record
-      -- may have, or its body a map, or memory was wanting
+    -- The commit of an attempt whose body had answered found a queue or a log full, of which there are so many
+    pub record FoundFull (parts : ℕ) (answered : List NamedDone → Type 0) (q : PassView M) (part values adding : ℕ) : Type 0 where
+      pub there : part < parts
+      pub seen : Seen NamedDone
+      pub end : seen.end ≡ Full part values adding
+      pub calls : answered seen.dones
+      pub saw : Saw q seen
+
+    module _ (parts : ℕ) (answered : List NamedDone → Type 0) where
+      -- An attempt that began with the one pass and left the other was ended so: its commit found a part full, or its body a map, or memory
+      -- was wanting
       abbrev pub IsLastEnd : PassView M → PassView M → RunEnd → Type 0
       IsLastEnd p q (run_ends.Spent n last) = ⊥
-      IsLastEnd p q (run_ends.Full part values adding) = (seen : Seen NamedDone) × (seen.end ≡ Full part values adding) × allows (by_key seen.dones) × Saw q seen
+      IsLastEnd p q (run_ends.Full part values adding) = FoundFull parts answered q part values adding
       IsLastEnd p q (run_ends.KeysFull map capacity) = IsFullBetween p.keys q.keys map capacity
       IsLastEnd p q run_ends.Memory = Unit {0}
 

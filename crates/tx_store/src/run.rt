@@ -7,7 +7,8 @@ ghost use Rattle.serial_terms.specs.Renaming.{by_key};
 ghost use Rattle.store_meaning.specs.declared.meaning.StoreMeaning.{StoreMeaning as Means};
 ghost use Rattle.tx_core.specs.declared.stop.TxState.TheVariants.{Running};
 ghost use Rattle.tx_store.specs.Known.{Vouches};
-ghost use Rattle.tx_store.specs.Runs.{IsFresh, IsSameAttempt, IsBodyStop, IsLeft, AfterFewer, IsCommittedRun, IsRefusedRun, IsNotSpent, IsTryEnd, IsNotAgain, after_stop, after_refusal};
+ghost use Rattle.tx_store.specs.Resolves.{parts_of};
+ghost use Rattle.tx_store.specs.Runs.{IsFresh, IsSameAttempt, IsBodyStop, IsLeft, AfterFewer, IsCommittedRun, IsRefusedRun, IsNotSpent, IsTryEnd, IsNotAgain, IsAnswered, after_stop, after_refusal};
 ghost use Rattle.tx_store.specs.Stores.{StoreView, IsPassOfStore};
 
 use crate::commit::CommitEnd;
@@ -132,7 +133,7 @@ pub fn atomically<P: Purpose, B: Body<P>>(
     requires tries { (0 < tries) × (tries ≤ pass.pass.view.draws) }
     requires can_run { B.can_run body.old store.now }
     ensures committed { IfOk result (λ r. AfterFewer (Vouches P.lawful_state store.now.table.meaning) tries pass (λ before. IsCommittedRun (P.allowed store.now.table.meaning.purpose) (B.runs body.old) before r.0 r.1)) }
-    ensures refused { IfErr result (λ r. (r.0.pass.books ≡ pass.pass.books) × IsRefusedRun (Vouches P.lawful_state store.now.table.meaning) (P.allowed store.now.table.meaning.purpose) tries pass r.0 r.1) }
+    ensures refused { IfErr result (λ r. (r.0.pass.books ≡ pass.pass.books) × IsRefusedRun (Vouches P.lawful_state store.now.table.meaning) (parts_of store.now.table.meaning.plan) (IsAnswered (P.allowed store.now.table.meaning.purpose) (B.runs body.old)) tries pass r.0 r.1) }
     ensures left { IfOk result (λ r. IsLeft store.now tries pass r.0) }
     ensures left_refused { IfErr result (λ r. IsLeft store.now tries pass r.0) }
     ensures sole { IsSole pass.pass → IfErr result (λ r. IsNotSpent r.1) }
@@ -208,7 +209,7 @@ fn once<P: Purpose, B: Body<P>>(
     requires draw { 0 < pass.pass.view.draws }
     requires can_run { B.can_run body.old store.now }
     ensures committed { IfOk result (λ r. IsCommittedRun (P.allowed store.now.table.meaning.purpose) (B.runs body.old) pass r.0 r.1) }
-    ensures refused { IfErr result (λ r. (r.0.pass.books ≡ pass.pass.books) × IsTryEnd (Vouches P.lawful_state store.now.table.meaning) (P.allowed store.now.table.meaning.purpose) pass r.0 r.1) }
+    ensures refused { IfErr result (λ r. (r.0.pass.books ≡ pass.pass.books) × IsTryEnd (Vouches P.lawful_state store.now.table.meaning) (parts_of store.now.table.meaning.plan) (IsAnswered (P.allowed store.now.table.meaning.purpose) (B.runs body.old)) pass r.0 r.1) }
     ensures left { IfOk result (λ r. IsLeft store.now 1 pass r.0) }
     ensures left_refused { IfErr result (λ r. IsLeft store.now 1 pass r.0) }
     ensures sole { IsSole pass.pass → IfErr result (λ r. IsNotAgain r.1) }
@@ -224,6 +225,7 @@ fn once<P: Purpose, B: Body<P>>(
     };
     match body.body(alloc, &mut tx) {
         Ok(out) => {
+            tx.tells_law();
             match tx.commit() {
                 Ok(done) => {
                     let (back, _) = done;

@@ -1,7 +1,8 @@
 use Rattle.std.proofs.Common.{◌+◌, ◌∙◌, arith, add-one}
 use Rattle.tx_store.specs.Known.{Vouches}
-use Rattle.tx_store.specs.Runs.{IsLastEnd, IsTryEnd}
-use Rattle.tx_store.proofs.Trying.{left_then, alone_left, ran_by, refused_as}
+use Rattle.tx_store.specs.Resolves.{parts_of}
+use Rattle.tx_store.specs.Runs.{IsAnswered, IsLastEnd, IsTryEnd}
+use Rattle.tx_store.proofs.Trying.{left_then, alone_left, ran_by, last_by, refused_as}
 use Rattle.tx_store.proofs.run.atomically.Goals as goal
 
 pub returns-in-Ok-clause-committed : goal.returns-in-Ok-clause-committed
@@ -26,17 +27,17 @@ pub returns-in-Ends-clause-refused : goal.returns-in-Ends-clause-refused
 returns-in-Ends-clause-refused g c =
     let so_far = c.loop-tried.invariant in
     let refused = c.in-Err.ensures.refused in
-    let ended : IsTryEnd (Vouches g.P.Purpose.lawful_state c.args.store.now.table.meaning) (g.P.Purpose.allowed c.args.store.now.table.meaning.purpose) c.loop-tried.pass c.in-Err.refused.0 c.in-Err.refused.1 = refused.1 in
-    let last : IsLastEnd (Vouches g.P.Purpose.lawful_state c.args.store.now.table.meaning) (g.P.Purpose.allowed c.args.store.now.table.meaning.purpose) c.loop-tried.pass c.in-Err.refused.0 c.in-Ends.end = rw c.in-Ends.is at ended in (
+    let ended : IsTryEnd (Vouches g.P.Purpose.lawful_state c.args.store.now.table.meaning) (parts_of c.args.store.now.table.meaning.plan) (IsAnswered (g.P.Purpose.allowed c.args.store.now.table.meaning.purpose) (g.B.Body.runs c.loop-tried.body)) c.loop-tried.pass c.in-Err.refused.0 c.in-Err.refused.1 = refused.1 in
+    let last : IsLastEnd (Vouches g.P.Purpose.lawful_state c.args.store.now.table.meaning) (parts_of c.args.store.now.table.meaning.plan) (IsAnswered (g.P.Purpose.allowed c.args.store.now.table.meaning.purpose) (g.B.Body.runs c.loop-tried.body)) c.loop-tried.pass c.in-Err.refused.0 c.in-Ends.end = rw c.in-Ends.is at ended in (
       refused.0 ∙ so_far.books,
-      refused_as (Vouches g.P.Purpose.lawful_state c.args.store.now.table.meaning) (g.P.Purpose.allowed c.args.store.now.table.meaning.purpose) c.args.tries c.args.pass c.in-Err.refused.0 c.in-Ends.end (record {
+      refused_as (Vouches g.P.Purpose.lawful_state c.args.store.now.table.meaning) (parts_of c.args.store.now.table.meaning.plan) (IsAnswered (g.P.Purpose.allowed c.args.store.now.table.meaning.purpose) (g.B.Body.runs c.args.body.now)) c.args.tries c.args.pass c.in-Err.refused.0 c.in-Ends.end (record {
         before = c.loop-tried.tried;
         few = c.loop-tried-test.true;
         last = c.loop-tried.last;
         pass = c.loop-tried.pass;
         ended = so_far.ended;
         books = so_far.books;
-        ends = last;
+        ends = last_by (Vouches g.P.Purpose.lawful_state c.args.store.now.table.meaning) (parts_of c.args.store.now.table.meaning.plan) (g.P.Purpose.allowed c.args.store.now.table.meaning.purpose) (g.B.Body.runs c.loop-tried.body) (g.B.Body.runs c.args.body.now) c.loop-tried.pass c.in-Err.refused.0 c.in-Ends.end so_far.same_relation last;
       }),
     )
 
