@@ -5,7 +5,7 @@ use Rattle.std.specs.Option.{option_map, option_map_or, unwrap_or}
 use Rattle.std.specs.Str.{bytes_eq}
 use Rattle.std.specs.Str.Parse.{digits_value}
 use Rattle.command_words.specs.declared.command.Command.{Command}
-use Rattle.command_words.specs.declared.command.Command.TheVariants.{Unknown, Inspect, Audit, Make}
+use Rattle.command_words.specs.declared.command.Command.TheVariants.{Unknown, Inspect, Audit, Make, Trial}
 use Rattle.command_words.specs.declared.command.FileNames.{FileNames}
 use Rattle.command_words.specs.declared.command.Settings.{Settings}
 use Rattle.command_words.specs.declared.options.Options.{Options}
@@ -19,18 +19,21 @@ abbrev pub names_of : FileNames → Names
 names_of names = record { rules = names.rules.now; capture = names.capture.now }
 
 -- what is asked of the program: nothing that it knows, to inspect the files of these names with these
--- settings, to judge the journal of this name, or to generate a capture from a seed with so many frames
+-- settings, to judge the journal of this name, to generate a capture from a seed with so many frames, or
+-- to try the program on one
 pub data Asked : Type 0 where
   unknown : Asked
   inspect : Names → Settings → Asked
   audit : List ℕ → Asked
   make : ℕ → ℕ → Asked
+  trial : ℕ → ℕ → Asked
 
 abbrev pub asked_of : Command → Asked
 asked_of Unknown = unknown
 asked_of (Inspect names settings) = inspect (names_of names) settings
 asked_of (Audit journal) = audit journal.now
 asked_of (Make making) = make making.seed making.frames
+asked_of (Trial making) = trial making.seed making.frames
 
 -- The words of an inspection.
 
@@ -50,11 +53,13 @@ unfoldable pub with_option : Options → List ℕ → List ℕ → Option Option
 with_option options word value =
     if bytes_eq word (codes "--window") && is_none options.window
     then option_map (λ window. record options { window = Some window }) (number_in 1 86400 value)
+    else if bytes_eq word (codes "--findings") && is_none options.findings
+    then option_map (λ findings. record options { findings = Some findings }) (number_in 1 1048576 value)
     else None
 
--- the settings that these options give: 65,536 findings, and 30 seconds where they don't say it
+-- the settings that these options give: 65,536 findings and 30 seconds where they don't say it
 abbrev pub settings_by : Options → Settings
-settings_by options = record { findings = 65536; window = unwrap_or options.window 30 }
+settings_by options = record { findings = unwrap_or options.findings 65536; window = unwrap_or options.window 30 }
 
 -- an inspection of the files of these names, if names they are
 unfoldable pub inspection_of : Options → List ℕ → List ℕ → Asked
@@ -72,31 +77,34 @@ inspection_by options (word ∷ value ∷ other ∷ words) =
     option_map_or (λ more. inspection_by more (other ∷ words)) (with_option options word value) unknown
 
 abbrev pub no_options : Options
-no_options = record { window = None }
+no_options = record { window = None; findings = None }
 
 -- the audit of a journal: one name
 unfoldable pub audit_by : List (List ℕ) → Asked
 audit_by (journal ∷ []) = if is_name journal then audit journal else unknown
 audit_by words = unknown
 
--- a generated capture, by the words of its seed and of its number of frames, if numbers they are
-unfoldable pub making_of : List ℕ → List ℕ → Asked
+-- the seed and the number of frames that two words write, if numbers they are
+unfoldable pub making_of : List ℕ → List ℕ → Option (ℕ × ℕ)
 making_of seed frames =
-    option_map_or (λ s. option_map_or (λ f. make s f) (number_in 0 262144 frames) unknown) (number_in 0 (2 ^ 64 - 1) seed) unknown
+    option_map_or (λ s. option_map (λ f. (s, f)) (number_in 0 262144 frames)) (number_in 0 (2 ^ 64 - 1) seed) None
 
--- a seed, and a number of frames
-unfoldable pub make_by : List (List ℕ) → Asked
-make_by (seed ∷ frames ∷ []) = making_of seed frames
-make_by words = unknown
+-- what is asked for with a capture of a seed and a number of frames
+unfoldable pub making_by : (ℕ → ℕ → Asked) → List (List ℕ) → Asked
+making_by ask (seed ∷ frames ∷ []) = option_map_or (λ making. ask making.0 making.1) (making_of seed frames) unknown
+making_by ask words = unknown
 
 -- what the words behind the program's own name ask for, where they are one of these:
---     inspect [--window N] RULES CAPTURE
+--     inspect [--findings N] [--window N] RULES CAPTURE
 --     audit JOURNAL
 --     make SEED FRAMES
+--     trial SEED FRAMES
+-- The options come in any order.
 unfoldable pub asked_by : List (List ℕ) → Asked
 asked_by [] = unknown
 asked_by (command ∷ words) =
     if bytes_eq command (codes "inspect") then inspection_by no_options words
     else if bytes_eq command (codes "audit") then audit_by words
-    else if bytes_eq command (codes "make") then make_by words
+    else if bytes_eq command (codes "make") then making_by make words
+    else if bytes_eq command (codes "trial") then making_by trial words
     else unknown

@@ -1,6 +1,7 @@
 // The commands, and the words that they are written by.
 ghost use Rattle.std.specs.Prelude.{◌≡◌, map, string_bytes};
-ghost use Rattle.command_words.specs.Words.{is_name, inspection_of, inspection_by, settings_by, audit_by, make_by, making_of, asked_by, asked_of};
+ghost use Rattle.std.specs.Option.{option_map};
+ghost use Rattle.command_words.specs.Words.{is_name, inspection_of, inspection_by, settings_by, audit_by, make, trial, making_by, making_of, asked_by, asked_of};
 
 use crate::making::Making;
 use crate::options::{Options, number_in};
@@ -24,7 +25,7 @@ pub struct FileNames<'a> {
 /// What an inspection is told beside its files.
 #[derive(Clone, Copy, Debug)]
 pub struct Settings {
-    /// The most findings that it may have.
+    /// The most findings that it may have, from 1 to 1,048,576.
     pub findings: u32,
     /// The window that parts the generations of a key, in seconds, from 1 to 86,400.
     pub window: u32,
@@ -46,6 +47,8 @@ pub enum Command<'a> {
     },
     /// Generate a capture, and write it.
     Make(Making),
+    /// Generate a capture, inspect it, and write the summary.
+    Trial(Making),
 }
 
 #[tactic(auto, unfolding(crate::specs::Words::is_name))]
@@ -59,7 +62,7 @@ fn settings_by(options: Options) -> Settings
     ensures { result ≡ settings_by options }
 {
     Settings {
-        findings: USUAL_FINDINGS,
+        findings: options.findings.unwrap_or(USUAL_FINDINGS),
         window: options.window.unwrap_or(USUAL_WINDOW),
     }
 }
@@ -109,47 +112,68 @@ fn audit_by(words: &[String]) -> Command<'_>
     }
 }
 
-// A generated capture, by the words of its seed and of its number of frames, if numbers they are.
+// The capture of a seed and a number of frames that two words write, if numbers they are.
 #[tactic(auto, unfolding(crate::specs::Words::making_of))]
-fn making_of(seed: &str, frames: &str) -> Command<'static>
-    ensures { asked_of result ≡ making_of seed.now frames.now }
+fn making_of(seed: &str, frames: &str) -> Option<Making>
+    ensures { option_map (λ making. (making.seed, making.frames)) result ≡ making_of seed.now frames.now }
 {
-    let Some(seed) = number_in(seed, 0, u64::MAX) else {
-        return Command::Unknown;
-    };
-    let Some(frames) = number_in(frames, 0, MAX_FRAMES) else {
-        return Command::Unknown;
-    };
-    Command::Make(Making {
+    let seed = number_in(seed, 0, u64::MAX)?;
+    let frames = number_in(frames, 0, MAX_FRAMES)?;
+    Some(Making {
         seed,
         frames: frames as u32,
     })
 }
 
 // What these words behind `make` ask for: a seed, and a number of frames.
-#[tactic(auto, unfolding(crate::specs::Words::make_by))]
+#[tactic(auto, unfolding(crate::specs::Words::making_by))]
 fn make_by(words: &[String]) -> Command<'_>
-    ensures { asked_of result ≡ make_by (map (λ w. string_bytes w) words.now) }
+    ensures { asked_of result ≡ making_by make (map (λ w. string_bytes w) words.now) }
 {
     match words {
-        [seed, frames] => making_of(seed.as_str(), frames.as_str()),
+        [seed, frames] => match making_of(seed.as_str(), frames.as_str()) {
+            Some(making) => Command::Make(making),
+            None => Command::Unknown,
+        },
         _ => Command::Unknown,
     }
 }
 
-/// What the words behind the program's own name ask for: `inspect [--window N] RULES CAPTURE`,
-/// `audit JOURNAL`, or `make SEED FRAMES`, with names that aren't empty and don't begin with two dashes.
-/// All other words are `Unknown`.
+// What they ask for behind `trial`.
+#[tactic(auto, unfolding(crate::specs::Words::making_by))]
+fn trial_by(words: &[String]) -> Command<'_>
+    ensures { asked_of result ≡ making_by trial (map (λ w. string_bytes w) words.now) }
+{
+    match words {
+        [seed, frames] => match making_of(seed.as_str(), frames.as_str()) {
+            Some(making) => Command::Trial(making),
+            None => Command::Unknown,
+        },
+        _ => Command::Unknown,
+    }
+}
+
+/// What the words behind the program's own name ask for: `inspect [--findings N] [--window N] RULES
+/// CAPTURE`, `audit JOURNAL`, `make SEED FRAMES`, or `trial SEED FRAMES`, with names that aren't empty and
+/// don't begin with two dashes, and options in any order, each at most once. All other words are
+/// `Unknown`.
 #[tactic(auto, unfolding(crate::specs::Words::asked_by))]
 pub fn command_of(words: &[String]) -> Command<'_>
     ensures { asked_of result ≡ asked_by (map (λ w. string_bytes w) words.now) }
 {
     match words {
         [command, rest @ ..] if command.as_str() == "inspect" => {
-            inspection_by(Options { window: None }, rest)
+            inspection_by(
+                Options {
+                    window: None,
+                    findings: None,
+                },
+                rest,
+            )
         }
         [command, rest @ ..] if command.as_str() == "audit" => audit_by(rest),
         [command, rest @ ..] if command.as_str() == "make" => make_by(rest),
+        [command, rest @ ..] if command.as_str() == "trial" => trial_by(rest),
         _ => Command::Unknown,
     }
 }

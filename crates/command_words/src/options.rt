@@ -5,11 +5,19 @@ ghost use Rattle.command_words.specs.Words.{number_in, with_option};
 
 use itoa::Buffer;
 
+/// The longest window: a day, in seconds.
+const MAX_WINDOW: u64 = 86_400;
+
+/// The most findings that may be asked for.
+const MAX_FINDINGS: u64 = 1_048_576;
+
 /// The options that were given so far, each with its value.
 #[derive(Clone, Copy, Debug)]
 pub struct Options {
     /// The window in seconds.
     pub window: Option<u32>,
+    /// The most findings.
+    pub findings: Option<u32>,
 }
 
 // The number whose decimal digits the word is, if it is one below 2^64.
@@ -50,9 +58,16 @@ impl Options {
         ensures { result ≡ with_option self word.now value.now }
     {
         if word == "--window" && self.window.is_none() {
-            let window = number_in(value, 1, 86_400)?;
+            let window = number_in(value, 1, MAX_WINDOW)?;
             Some(Options {
                 window: Some(window as u32),
+                ..self
+            })
+        } else if word == "--findings" && self.findings.is_none() {
+            let findings = number_in(value, 1, MAX_FINDINGS)?;
+            Some(Options {
+                findings: Some(findings as u32),
+                ..self
             })
         } else {
             None

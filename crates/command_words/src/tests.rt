@@ -12,13 +12,31 @@ fn list(alloc: Global, words: &[&str]) -> Result<Vec<String>, AllocError> {
 
 #[test]
 fn an_inspection_is_read_from_its_words(rt: HostRuntime) -> Result<(), Fail> {
-    let lists: [(&[&str], u32); 4] = [
-        (&["inspect", "r", "-c"], 30),
-        (&["inspect", "--window", "1", "r", "-c"], 1),
-        (&["inspect", "--window", "31", "r", "-c"], 31),
-        (&["inspect", "--window", "86400", "r", "-c"], 86_400),
+    let lists: [(&[&str], u32, u32); 6] = [
+        (&["inspect", "r", "-c"], 65_536, 30),
+        (&["inspect", "--window", "1", "r", "-c"], 65_536, 1),
+        (&["inspect", "--window", "86400", "r", "-c"], 65_536, 86_400),
+        (&["inspect", "--findings", "1", "r", "-c"], 1, 30),
+        (
+            &[
+                "inspect",
+                "--findings",
+                "1048576",
+                "--window",
+                "31",
+                "r",
+                "-c",
+            ],
+            1_048_576,
+            31,
+        ),
+        (
+            &["inspect", "--window", "31", "--findings", "2", "r", "-c"],
+            2,
+            31,
+        ),
     ];
-    for (words, window) in lists {
+    for (words, findings, window) in lists {
         let words = list(rt.alloc(), words)?;
         let Command::Inspect { names, settings } = command_of(&words) else {
             assert!(rt; false, "an inspection");
@@ -26,7 +44,7 @@ fn an_inspection_is_read_from_its_words(rt: HostRuntime) -> Result<(), Fail> {
         };
         assert_eq!(rt; names.rules, "r");
         assert_eq!(rt; names.capture, "-c");
-        assert_eq!(rt; settings.findings, 65_536);
+        assert_eq!(rt; settings.findings, findings);
         assert_eq!(rt; settings.window, window);
     }
     Ok(())
@@ -79,7 +97,7 @@ fn an_audit_is_read_from_its_words(rt: HostRuntime) -> Result<(), Fail> {
 }
 
 #[test]
-fn a_capture_to_make_is_read_from_its_words(rt: HostRuntime) -> Result<(), Fail> {
+fn a_capture_to_make_or_to_try_is_read_from_its_words(rt: HostRuntime) -> Result<(), Fail> {
     let lists: [(&str, &str, u64, u32); 3] = [
         ("9", "0", 9, 0),
         ("0", "262144", 0, 262_144),
@@ -98,9 +116,19 @@ fn a_capture_to_make_is_read_from_its_words(rt: HostRuntime) -> Result<(), Fail>
         };
         assert_eq!(rt; making.seed, want_seed);
         assert_eq!(rt; making.frames, want_frames);
+        let words = list(rt.alloc(), &["trial", seed_word, frames_word])?;
+        let Command::Trial(tried) = command_of(&words) else {
+            assert!(rt; false, "a trial");
+            return Ok(());
+        };
+        assert_eq!(rt; tried.seed, want_seed);
+        assert_eq!(rt; tried.frames, want_frames);
     }
-    let others: [&[&str]; 9] = [
+    let others: [&[&str]; 12] = [
         &["make"],
+        &["trial", "9"],
+        &["trial", "9", "262145"],
+        &["trial", "--findings", "1", "9", "0"],
         &["make", "9"],
         &["make", "9", "0", "0"],
         &["make", "18446744073709551616", "0"],
@@ -119,7 +147,7 @@ fn a_capture_to_make_is_read_from_its_words(rt: HostRuntime) -> Result<(), Fail>
 
 #[test]
 fn other_words_are_unknown(rt: HostRuntime) -> Result<(), Fail> {
-    let lists: [&[&str]; 21] = [
+    let lists: [&[&str]; 25] = [
         &[],
         &["inspect"],
         &["inspect", "r"],
@@ -130,6 +158,10 @@ fn other_words_are_unknown(rt: HostRuntime) -> Result<(), Fail> {
         &["inspect", "--workers", "17", "r", "c"],
         &["inspect", "--workers", "4", "--workers", "4", "r", "c"],
         &["inspect", "--findings", "010", "r", "c"],
+        &["inspect", "--findings", "0", "r", "c"],
+        &["inspect", "--findings", "1048577", "r", "c"],
+        &["inspect", "--findings", "1", "--findings", "1", "r", "c"],
+        &["inspect", "r", "c", "--findings", "1"],
         &["inspect", "--workers=4", "r", "c"],
         &["Inspect", "r", "c"],
         &["journal", "r", "c"],

@@ -2,13 +2,15 @@
 use Rattle.std.proofs.Common.{◌≡◌, ◌≢◌, ◌⊎◌, inl, inr, ℕ, ◌<◌, ◌≤◌, List, length, Some, refl, sym, ◌∙◌, ap, subst, arith}
 use Rattle.history_audit.specs.Verdicts.{IsLegalWith}
 use Rattle.journal_terms.specs.Legal.{IsLegalText, FirstBadLines}
-use Rattle.command_words.specs.Words.{audit, asked_by}
-use Rattle.report.specs.Fault.{no_command, unread, unwritten, long_file, no_memory, not_legal}
+use Rattle.report.specs.Fault.{unread, unwritten, long_file, no_memory, not_legal}
 use Rattle.tdsl_tool.specs.Verdict.{max_file, Verdict, reports, stops, verdict_status}
-use Rattle.tdsl_tool.specs.Run.{Source, Writing, HasFailed, IsFaulty, Run, source, EndsBy, Exactly, Ending, finished, faulted, ending_status, Tells}
-use Rattle.tdsl_tool.specs.Audit.{IsJudged, IsAudit, HasAuditStatus, IsAnswered, IsCutShort, AuditEndsSo, Audited}
-use Rattle.tdsl_tool.specs.Commands.{Ran}
-use Rattle.tdsl_tool.proofs.Ran.{IsFree, decided, decided_is, some_status, quiet_cause}
+use Rattle.tdsl_tool.specs.Run.{Source, Writing, HasFailed, IsFaulty, Run, EndsBy, Exactly, Ending, finished, faulted, ending_status, EndsSo}
+use Rattle.tdsl_tool.specs.Audit.{IsJudged, IsAudit, IsAuditOf, HasAuditStatus, StopsAtJournal, Audited}
+use Rattle.tdsl_tool.proofs.Ran.{IsFree, decided, decided_is}
+
+-- how an audit ends
+abbrev pub Ends : Source → Writing → Ending → Type 0
+Ends file out ending = EndsSo (λ text. IsAuditOf file (reports text)) (StopsAtJournal file) out ending
 
 legal_text : (text : List ℕ) (records sights : ℕ) → IsLegalWith text records sights → IsLegalText text
 legal_text text records sights is = (is.journal, is.legal, is.text_is)
@@ -31,32 +33,13 @@ module _ (law : FirstBadLines) where
   audit_status name text v w (inr p) (inr q) = judged_status text v w p.1 q.1
 
   module _ (file : Source) (out : Writing) where
-    read_cause : (ending : Ending) → AuditEndsSo file out ending → ending_status ending ≡ 2 → HasFailed file
+    read_cause : (ending : Ending) → Ends file out ending → ending_status ending ≡ 2 → HasFailed file
     read_cause (faulted (unread name)) ends is = ends.0.1
     read_cause finished ends is = absurd (omega arith)
     read_cause (faulted cause) ends is = absurd (omega arith)
 
-    write_cause : (ending : Ending) → AuditEndsSo file out ending → ending_status ending ≡ 3 → IsCutShort file out
-    write_cause (faulted unwritten) ends is = ends
-    write_cause finished ends is = absurd (omega arith)
-    write_cause (faulted cause) ends is = absurd (omega arith)
-
-    answer_cause : (ending : Ending) → AuditEndsSo file out ending → ending_status ending ≡ 0 → IsAnswered file out
-    answer_cause finished ends is = ends
-    answer_cause (faulted cause) ends is = absurd (omega (arith, some_status cause))
-
-    nothing_cause : (ending : Ending) → AuditEndsSo file out ending → ending_status ending ≢ 0 → ending_status ending ≢ 3 → out.after ≡ out.before
-    nothing_cause finished ends nonzero other = absurd (nonzero refl)
-    nothing_cause (faulted unwritten) ends nonzero other = absurd (other refl)
-    nothing_cause (faulted cause) ends nonzero other = ends.1
-
-    not_usage : (ending : Ending) → AuditEndsSo file out ending → ending_status ending ≢ 1
-    not_usage finished ends = λ is. omega arith
-    not_usage (faulted no_command) ends = λ is. absurd ends.0
-    not_usage (faulted cause) ends = λ is. omega arith
-
     module _ (text : List ℕ) (told : file.told ≡ Some text) where
-      found : (ending : Ending) → AuditEndsSo file out ending → IsFree (ending_status ending) ⊎ HasAuditStatus file.name text (decided ending)
+      found : (ending : Ending) → Ends file out ending → IsFree (ending_status ending) ⊎ HasAuditStatus file.name text (decided ending)
       found finished ends = inr (reports ends.0, refl, ends.1 text told)
       found (faulted unwritten) ends = inr (reports ends.0, refl, ends.1 text told)
       found (faulted (unread name)) ends = inl (inr refl)
@@ -65,14 +48,14 @@ module _ (law : FirstBadLines) where
       found (faulted (not_legal line)) ends = inr (stops (not_legal line), refl, ends.0 text told)
       found (faulted cause) ends = absurd ends.0
 
-      found_status : (ending : Ending) (status : ℕ) → AuditEndsSo file out ending → HasAuditStatus file.name text status → IsFree (ending_status ending) ⊎ (decided ending ≡ status)
+      found_status : (ending : Ending) (status : ℕ) → Ends file out ending → HasAuditStatus file.name text status → IsFree (ending_status ending) ⊎ (decided ending ≡ status)
       found_status ending status ends has =
           elim (found ending ends) [
             | inl other ↦ inl other
             | inr here ↦ inr (sym here.1 ∙ audit_status file.name text here.0 has.0 here.2 has.2 ∙ has.1)
           ]
 
-      exactly : (ending : Ending) (status wanted : ℕ) → AuditEndsSo file out ending → status ≡ ending_status ending → 3 < wanted → wanted ≢ 7 → Exactly status wanted (HasAuditStatus file.name text wanted)
+      exactly : (ending : Ending) (status wanted : ℕ) → Ends file out ending → status ≡ ending_status ending → 3 < wanted → wanted ≢ 7 → Exactly status wanted (HasAuditStatus file.name text wanted)
       exactly ending status wanted ends is low high = (only, back)
         where
           only : status ≡ wanted → HasAuditStatus file.name text wanted
@@ -97,7 +80,7 @@ module _ (law : FirstBadLines) where
                 ]
               ]
 
-      told_legal : (ending : Ending) (status : ℕ) → AuditEndsSo file out ending → status ≡ ending_status ending → IsLegalText text → length text ≤ max_file → ¬ HasFailed file → ¬ IsFaulty out → (status ≡ 0) ⊎ (status ≡ 7)
+      told_legal : (ending : Ending) (status : ℕ) → Ends file out ending → status ≡ ending_status ending → IsLegalText text → length text ≤ max_file → ¬ HasFailed file → ¬ IsFaulty out → (status ≡ 0) ⊎ (status ≡ 7)
       told_legal finished status ends is legal short read written = inl is
       told_legal (faulted unwritten) status ends is legal short read written = absurd (written ends.3)
       told_legal (faulted (unread name)) status ends is legal short read written = absurd (read ends.0.1)
@@ -110,28 +93,10 @@ module _ (law : FirstBadLines) where
           ]
       told_legal (faulted cause) status ends is legal short read written = absurd ends.0
 
-  audited : (run : Run) (file : Source) (ending : Ending) → run.status ≡ ending_status ending → AuditEndsSo file run.out ending → Tells run.faults ending → Audited run file
-  audited run file ending is ends tells = record {
-    answer = λ zero. (answer_cause file run.out ending ends (sym is ∙ zero), quiet_cause run.faults ending tells (sym is ∙ zero));
+  -- the run of an audit
+  pub audited : (run : Run) (file : Source) (ending : Ending) → run.status ≡ ending_status ending → Ends file run.out ending → Audited run file
+  audited run file ending is ends = record {
     read = λ two. read_cause file run.out ending ends (sym is ∙ two);
-    write = λ three. write_cause file run.out ending ends (sym is ∙ three);
     refused = λ text told status. exactly file run.out text told ending run.status status ends is;
     complete = λ text told. told_legal file run.out text told ending run.status ends is;
-    fault_line = (ending, is, ends, tells);
-    nothing_out = λ nonzero other. nothing_cause file run.out ending ends (λ zero. nonzero (is ∙ zero)) (λ three. other (is ∙ three));
   }
-
-  -- a run whose words ask for an audit
-  pub ran_audit : (words : List (List ℕ)) (run : Run) (name : List ℕ) (ending : Ending) → asked_by words ≡ audit name → run.status ≡ ending_status ending → AuditEndsSo (source run.content run.before run.after name) run.out ending → Tells run.faults ending → Ran words run
-  ran_audit words run name ending asked is ends tells =
-      let here = source run.content run.before run.after name in
-      let not_one : run.status ≢ 1 = λ status. not_usage here run.out ending ends (sym is ∙ status) in
-      record {
-        usage = (λ status. absurd (not_one status), λ none. cc);
-        usage_line = λ status. absurd (not_one status);
-        inspection = λ names settings are. absurd (cc (asked, are));
-        audit_of = λ other are.
-            let same : name ≡ other = cc in
-            subst (λ (n : List ℕ). Audited run (source run.content run.before run.after n)) same (audited run here ending is ends tells);
-        making = λ seed frames are. absurd (cc (asked, are));
-      }

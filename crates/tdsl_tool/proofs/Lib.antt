@@ -6,6 +6,9 @@ pub mod FindingNumbers
 pub mod MemberSteps
 pub mod IncompleteGroups
 pub mod FindingSteps
+pub mod FewFindings
+pub mod Tried
+pub mod Ended
 pub mod Ran
 pub mod Audited
-pub mod Made
+pub mod Asked

@@ -4,16 +4,13 @@ use Rattle.capture_terms.specs.Capture.{Answer, IsAnswer}
 use Rattle.std.proofs.lemmas.Bool.{cases_Bool}
 use Rattle.pcapng_blocks.specs.Answer.{is_pcapng, IsBlocksAnswer}
 use Rattle.rule_terms.specs.Laws.{TextHasOneReading}
-use Rattle.tdsl_tool.specs.Verdict.{IsAnswerOf, SomeAnswerOf, RuleFile, rule_file_of, RuleFileIsOne, CaptureFile, file_of, IsCaptureFile, VerdictIsOne, verdict_of}
+use Rattle.tdsl_tool.specs.Verdict.{IsAnswerOf, AnswerIsOne, SomeAnswerOf, RuleFile, rule_file_of, RuleFileIsOne, CaptureFile, file_of, IsCaptureFile, VerdictIsOne, verdict_of}
 
 abbrev IsOneOf : (List ℕ → Answer → Type 0) → Type 0
 IsOneOf Is = (bytes : List ℕ) (one two : Answer) → Is bytes one → Is bytes two → one ≡ two
 
-abbrev AnswerIsOne : Type 0
-AnswerIsOne = IsOneOf IsAnswerOf
-
 -- two right answers in the format that a file begins as are one
-answer_is_one : IsOneOf IsAnswer → IsOneOf IsBlocksAnswer → AnswerIsOne
+pub answer_is_one : IsOneOf IsAnswer → IsOneOf IsBlocksAnswer → AnswerIsOne
 answer_is_one classic blocks bytes one two (inl p) (inl q) = blocks bytes one two p.1 q.1
 answer_is_one classic blocks bytes one two (inl p) (inr q) = absurd (cc (p.0, q.0))
 answer_is_one classic blocks bytes one two (inr p) (inl q) = absurd (cc (p.0, q.0))

@@ -1,10 +1,10 @@
 -- What a plan has: a task for a frame at most, a group for a task at most, and each task's group.
-use Rattle.std.proofs.Common.{◌≡◌, ℕ, zero, suc, ◌+◌, ◌<◌, ◌≤◌, ◌^◌, Bool, true, false, List, [], ◌∷◌, ◌++◌, Option, None, Some, refl, ap, subst, arith, length, get_or, length-append}
+use Rattle.std.proofs.Common.{◌≡◌, ℕ, zero, suc, ◌+◌, ◌<◌, ◌≤◌, ◌^◌, Bool, true, false, List, [], ◌∷◌, ◌++◌, Option, None, Some, refl, ◌∙◌, ap, subst, arith, length, get_or, length-append}
 use Rattle.std.specs.Prelude.{◌*◌, map, All, IfSome, option_to_list, position, fold, if◌then◌else◌}
 use Rattle.std.specs.List.{list_any}
 use Rattle.std.proofs.lemmas.List.{length-map}
 use Rattle.std.proofs.lemmas.List.Quantifiers.{position-Some}
-use Rattle.capture_terms.specs.Capture.{contents_of}
+use Rattle.capture_terms.specs.Capture.{Contents, contents_of}
 use Rattle.capture_terms.specs.declared.capture.Capture.{Capture}
 use Rattle.capture_terms.specs.declared.datagram.Class.{Class}
 use Rattle.capture_terms.specs.declared.datagram.Class.TheVariants as class
@@ -86,7 +86,7 @@ groups_few groups (piece ∷ pieces) =
 
 -- The plan of a capture.
 
-few_tasks_of : (kinds : List Kind) → length (tasks_of kinds) ≤ length kinds
+pub few_tasks_of : (kinds : List Kind) → length (tasks_of kinds) ≤ length kinds
 unfolding tasks_of
 few_tasks_of kinds = tasks_few (groups_of kinds) 0 (classes_of kinds) kinds
 
@@ -102,11 +102,13 @@ behind_long : (window : ℕ) (before frames : List Timed) → length (kinds_behi
 behind_long window before [] = refl
 behind_long window before (frame ∷ frames) = let rest = behind_long window (before ++ frame ∷ []) frames in omega (arith, rest)
 
-frames_few : (bytes : List ℕ) (capture : Capture) (window : ℕ) → IsClassifiable bytes capture → length (kinds_of bytes window (contents_of capture)) ≤ 262144
+pub kinds_long : (bytes : List ℕ) (window : ℕ) (contents : Contents) → length (kinds_of bytes window contents) ≡ length contents.frames
 unfolding in_generations
-frames_few bytes capture window classifiable =
-    let frames = map (timed bytes (contents_of capture)) capture.frames.items in
-    omega (arith, behind_long (window * 1000000000) [] frames, length-map capture.frames.items (timed bytes (contents_of capture)), classifiable.few)
+kinds_long bytes window contents =
+    behind_long (window * 1000000000) [] (map (timed bytes contents) contents.frames) ∙ length-map contents.frames (timed bytes contents)
+
+frames_few : (bytes : List ℕ) (capture : Capture) (window : ℕ) → IsClassifiable bytes capture → length (kinds_of bytes window (contents_of capture)) ≤ 262144
+frames_few bytes capture window classifiable = omega (arith, kinds_long bytes window (contents_of capture), classifiable.few)
 
 module _ (bytes : List ℕ) (capture : Capture) (window : ℕ) (plan : Plan) (classifiable : IsClassifiable bytes capture) (is : IsPlan bytes capture window plan) where
   pub few_tasks : length plan.tasks.items < 2 ^ 32

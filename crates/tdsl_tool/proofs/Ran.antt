@@ -1,14 +1,12 @@
--- What holds of a run, from how it ended.
+-- What holds of the run of an inspection, from how it ended.
 use Rattle.std.proofs.Common.{◌≡◌, ◌≢◌, ◌⊎◌, inl, inr, ℕ, ◌<◌, List, length, Some, refl, sym, ◌∙◌, ap, subst, arith}
 use Rattle.std.proofs.lemmas.Bool.{cases_lt}
 use Rattle.rule_terms.specs.Rule.{Rule}
 use Rattle.rule_terms.specs.RuleText as rule_text
-use Rattle.command_words.specs.Words.{Names, inspect, asked_by}
-use Rattle.command_words.specs.declared.command.Settings.{Settings}
-use Rattle.report.specs.Fault.{Cause, no_command, unread, unwritten, bad_line, bad_capture, long_file, many_frames, many_rules, many_findings, no_memory, status_of}
+use Rattle.report.specs.Fault.{Cause, unread, unwritten, bad_line, bad_capture, long_file, many_frames, many_rules, many_findings, no_memory, status_of}
 use Rattle.tdsl_tool.specs.Verdict.{max_file, reports, stops, RuleFile, rules_are, rules_refused, HasBadLine, HasManyRules, IsRuleFile, RuleFileIsOne, CaptureFile, IsCaptureFile, SomeAnswerOf, VerdictIsOne, verdict_status}
-use Rattle.tdsl_tool.specs.Commands.{Ran}
-use Rattle.tdsl_tool.specs.Run.{Reading, Writing, HasFailed, IsFaulty, Run, reading, EndsBy, Exactly, HasStatus, Decides, Inspected, IsOfRules, IfRulesTold, StopsAtRules, StopsAtCapture, StopsAt, IsReported, IsCutOff, Ending, finished, faulted, ending_status, EndsSo, Tells}
+use Rattle.tdsl_tool.specs.Run.{Reading, Writing, HasFailed, IsFaulty, Run, ComesTo, EndsBy, Exactly, HasStatus, Decides, Inspected, IsOfRules, IfRulesTold, StopsAtRules, StopsAtCapture, StopsAt, Ending, finished, faulted, ending_status, EndsSo}
+use Rattle.tdsl_tool.proofs.Ended.{write_cause}
 
 -- each capture file is something
 some_capture_file : SomeAnswerOf → (name bytes : List ℕ) → (file : CaptureFile) × IsCaptureFile name bytes file
@@ -50,41 +48,22 @@ decided_is (faulted cause) = inr refl
 abbrev pub IsFree : ℕ → Type 0
 IsFree status = (status ≡ 7) ⊎ (status ≡ 2)
 
-pub some_status : (cause : Cause) → 0 < status_of cause
-some_status no_command = omega arith
-some_status cause = omega arith
+-- how an inspection ends
+abbrev pub Ends : Reading → Writing → Ending → Type 0
+Ends of out ending = EndsSo (λ text. ComesTo of (reports text)) (StopsAt of) out ending
 
 module _ (of : Reading) (out : Writing) where
   -- why an ending of each status comes
 
-  read_cause : (ending : Ending) → EndsSo of out ending → ending_status ending ≡ 2 → HasFailed of.rules ⊎ (HasFailed of.capture × IfRulesTold of IsOfRules)
+  read_cause : (ending : Ending) → Ends of out ending → ending_status ending ≡ 2 → HasFailed of.rules ⊎ (HasFailed of.capture × IfRulesTold of IsOfRules)
   read_cause (faulted (unread name)) ends is = elim ends.0 [ inl at ↦ inl at.1 | inr at ↦ inr (at.1, at.2) ]
   read_cause finished ends is = absurd (omega arith)
   read_cause (faulted cause) ends is = absurd (omega arith)
 
-  write_cause : (ending : Ending) → EndsSo of out ending → ending_status ending ≡ 3 → IsCutOff of out
-  write_cause (faulted unwritten) ends is = ends
-  write_cause finished ends is = absurd (omega arith)
-  write_cause (faulted cause) ends is = absurd (omega arith)
-
-  report_cause : (ending : Ending) → EndsSo of out ending → ending_status ending ≡ 0 → IsReported of out
-  report_cause finished ends is = ends
-  report_cause (faulted cause) ends is = absurd (omega (arith, some_status cause))
-
-  bad_cause : (ending : Ending) → EndsSo of out ending → ending_status ending ≡ 4 → IfRulesTold of (λ text. (number : ℕ) × HasBadLine text number)
+  bad_cause : (ending : Ending) → Ends of out ending → ending_status ending ≡ 4 → IfRulesTold of (λ text. (number : ℕ) × HasBadLine text number)
   bad_cause (faulted (bad_line number)) ends is = elim ends.0 [ inl at ↦ (λ text told. (number, at text told)) | inr at ↦ absurd at ]
   bad_cause finished ends is = absurd (omega arith)
   bad_cause (faulted cause) ends is = absurd (omega arith)
-
-  nothing_cause : (ending : Ending) → EndsSo of out ending → ending_status ending ≢ 0 → ending_status ending ≢ 3 → out.after ≡ out.before
-  nothing_cause finished ends nonzero other = absurd (nonzero refl)
-  nothing_cause (faulted unwritten) ends nonzero other = absurd (other refl)
-  nothing_cause (faulted cause) ends nonzero other = ends.1
-
-  not_usage : (ending : Ending) → EndsSo of out ending → ending_status ending ≢ 1
-  not_usage finished ends = λ is. omega arith
-  not_usage (faulted no_command) ends = λ is. elim ends.0 [ inl at ↦ absurd at | inr at ↦ absurd at ]
-  not_usage (faulted cause) ends = λ is. omega arith
 
 module _ (one : VerdictIsOne) (some : SomeAnswerOf) (of : Reading) (out : Writing) where
   module _ (text bytes : List ℕ) (told : of.rules.told ≡ Some text) (told' : of.capture.told ≡ Some bytes) where
@@ -117,13 +96,13 @@ module _ (one : VerdictIsOne) (some : SomeAnswerOf) (of : Reading) (out : Writin
     stop_found cause (inr why) = capture_found cause why
 
     -- and so does an ending
-    verdict_found : (ending : Ending) → EndsSo of out ending → IsFree (ending_status ending) ⊎ HasStatus of text bytes (decided ending)
+    verdict_found : (ending : Ending) → Ends of out ending → IsFree (ending_status ending) ⊎ HasStatus of text bytes (decided ending)
     verdict_found finished ends = inr (reports ends.0, refl, ends.1.verdict_is text told bytes told')
     verdict_found (faulted unwritten) ends = inr (reports ends.0, refl, ends.1.verdict_is text told bytes told')
     verdict_found (faulted cause) ends = stop_found cause ends.0
 
     -- so its status is that of the one verdict
-    found_status : (ending : Ending) (status : ℕ) → EndsSo of out ending → HasStatus of text bytes status → IsFree (ending_status ending) ⊎ (decided ending ≡ status)
+    found_status : (ending : Ending) (status : ℕ) → Ends of out ending → HasStatus of text bytes status → IsFree (ending_status ending) ⊎ (decided ending ≡ status)
     found_status ending status ends has =
         elim (verdict_found ending ends) [
           | inl other ↦ inl other
@@ -131,7 +110,7 @@ module _ (one : VerdictIsOne) (some : SomeAnswerOf) (of : Reading) (out : Writin
         ]
 
     -- a status other than 0, 2, 3 and 7 comes exactly where the verdict has it
-    exactly : (ending : Ending) (status wanted : ℕ) → EndsSo of out ending → status ≡ ending_status ending → 3 < wanted → wanted ≢ 7 → Exactly status wanted (HasStatus of text bytes wanted)
+    exactly : (ending : Ending) (status wanted : ℕ) → Ends of out ending → status ≡ ending_status ending → 3 < wanted → wanted ≢ 7 → Exactly status wanted (HasStatus of text bytes wanted)
     exactly ending status wanted ends is low high = (only, back)
       where
         only : status ≡ wanted → HasStatus of text bytes wanted
@@ -157,13 +136,13 @@ module _ (one : VerdictIsOne) (some : SomeAnswerOf) (of : Reading) (out : Writin
             ]
 
     -- a report is written where nothing fails
-    written : (ending : Ending) (status : ℕ) → EndsSo of out ending → status ≡ ending_status ending → HasStatus of text bytes 0 → ¬ HasFailed of.rules → ¬ HasFailed of.capture → ¬ IsFaulty out → (status ≡ 0) ⊎ (status ≡ 7)
+    written : (ending : Ending) (status : ℕ) → Ends of out ending → status ≡ ending_status ending → HasStatus of text bytes 0 → ¬ HasFailed of.rules → ¬ HasFailed of.capture → ¬ IsFaulty out → (status ≡ 0) ⊎ (status ≡ 7)
     written ending status ends is has rules_read capture_read out_written =
         elim (found_status ending 0 ends has) [
           | inl (inl seven) ↦ inr (is ∙ seven)
           | inl (inr two) ↦ elim (read_cause of out ending ends two) [ inl failed ↦ absurd (rules_read failed) | inr failed ↦ absurd (capture_read failed.0) ]
           | inr found ↦ elim (decided_is ending) [
-            | inl other ↦ absurd (out_written (write_cause of out ending ends other.0).3)
+            | inl other ↦ absurd (out_written (write_cause (λ text. ComesTo of (reports text)) (StopsAt of) out ending ends other.0).3)
             | inr equal ↦ inl (is ∙ sym equal ∙ found)
           ]
         ]
@@ -194,7 +173,7 @@ module _ (one : VerdictIsOne) (some : SomeAnswerOf) (of : Reading) (out : Writin
     rules_by cause (inl why) = rules_by_rules cause why
     rules_by cause (inr why) = rules_by_capture cause why
 
-    rules_by_ending : (ending : Ending) → EndsSo of out ending → IsOfRules text ⊎ IsFree (ending_status ending) ⊎ ((cause : Cause) × (ending_status ending ≡ status_of cause) × IsRuleFile of.rules.name text (rules_refused cause))
+    rules_by_ending : (ending : Ending) → Ends of out ending → IsOfRules text ⊎ IsFree (ending_status ending) ⊎ ((cause : Cause) × (ending_status ending ≡ status_of cause) × IsRuleFile of.rules.name text (rules_refused cause))
     rules_by_ending finished ends = inl (ends.1.rules text told)
     rules_by_ending (faulted unwritten) ends = inl (ends.1.rules text told)
     rules_by_ending (faulted cause) ends =
@@ -205,7 +184,7 @@ module _ (one : VerdictIsOne) (some : SomeAnswerOf) (of : Reading) (out : Writin
         ]
 
     -- a rule file that is refused ends the run
-    refused_ends : RuleFileIsOne → (ending : Ending) (status : ℕ) → EndsSo of out ending → status ≡ ending_status ending → (cause : Cause) → IsRuleFile of.rules.name text (rules_refused cause) → EndsBy status (status_of cause)
+    refused_ends : RuleFileIsOne → (ending : Ending) (status : ℕ) → Ends of out ending → status ≡ ending_status ending → (cause : Cause) → IsRuleFile of.rules.name text (rules_refused cause) → EndsBy status (status_of cause)
     refused_ends one_file ending status ends is cause refused =
         elim (rules_by_ending ending ends) [
           | inl are ↦ absurd (not_both _ cause (one_file of.rules.name text (rules_are are.0) (rules_refused cause) (inr (rule_text.list are.0, are.1, refl)) refused))
@@ -214,39 +193,12 @@ module _ (one : VerdictIsOne) (some : SomeAnswerOf) (of : Reading) (out : Writin
           | inr (inr by) ↦ inl (is ∙ by.1 ∙ ap rule_status (one_file of.rules.name text (rules_refused by.0) (rules_refused cause) by.2 refused))
         ]
 
-pub quiet_cause : (sink : Writing) (ending : Ending) → Tells sink ending → ending_status ending ≡ 0 → sink.after ≡ sink.before
-quiet_cause sink finished tells is = tells
-quiet_cause sink (faulted cause) tells is = absurd (omega (arith, some_status cause))
-
 -- the run of an inspection
-inspected : VerdictIsOne → RuleFileIsOne → SomeAnswerOf → (run : Run) (of : Reading) (ending : Ending) → run.status ≡ ending_status ending → EndsSo of run.out ending → Tells run.faults ending → Inspected run of
-inspected one one_file some run of ending is ends tells = record {
-  report = λ zero. (report_cause of run.out ending ends (sym is ∙ zero), quiet_cause run.faults ending tells (sym is ∙ zero));
+pub inspected : VerdictIsOne → RuleFileIsOne → SomeAnswerOf → (run : Run) (of : Reading) (ending : Ending) → run.status ≡ ending_status ending → Ends of run.out ending → Inspected run of
+inspected one one_file some run of ending is ends = record {
   read = λ two. read_cause of run.out ending ends (sym is ∙ two);
-  write = λ three. write_cause of run.out ending ends (sym is ∙ three);
   bad_rules = λ four. bad_cause of run.out ending ends (sym is ∙ four);
   refused_rules = λ text told. refused_ends one some of run.out text told one_file ending run.status ends is;
   refused_files = λ text told bytes told' status. exactly one some of run.out text bytes told told' ending run.status status ends is;
   complete = λ text told bytes told'. written one some of run.out text bytes told told' ending run.status ends is;
-  fault_line = (ending, is, ends, tells);
-  nothing_out = λ nonzero other. nothing_cause of run.out ending ends (λ zero. nonzero (is ∙ zero)) (λ three. other (is ∙ three));
 }
-
--- a run whose words ask for an inspection
-pub ran_inspection : VerdictIsOne → RuleFileIsOne → SomeAnswerOf → (words : List (List ℕ)) (run : Run) (names : Names) (settings : Settings) (ending : Ending) → asked_by words ≡ inspect names settings → run.status ≡ ending_status ending → EndsSo (reading run.content run.before run.after names settings) run.out ending → Tells run.faults ending → Ran words run
-ran_inspection one one_file some words run names settings ending asked is ends tells =
-    let here = reading run.content run.before run.after names settings in
-    let not_one : run.status ≢ 1 = λ status. not_usage here run.out ending ends (sym is ∙ status) in
-    record {
-      usage = (λ status. absurd (not_one status), λ none. cc);
-      usage_line = λ status. absurd (not_one status);
-      inspection = λ others limit are.
-          let same : inspect names settings ≡ inspect others limit = sym asked ∙ are in
-          let names_same : names ≡ others = cc in
-          let settings_same : settings ≡ limit = cc in
-          subst (λ (n : Names). Inspected run (reading run.content run.before run.after n limit)) names_same
-          (subst (λ (m : Settings). Inspected run (reading run.content run.before run.after names m)) settings_same
-          (inspected one one_file some run here ending is ends tells));
-      audit_of = λ name are. absurd (cc (asked, are));
-      making = λ seed frames are. absurd (cc (asked, are));
-    }

@@ -1,18 +1,43 @@
--- What holds of a run of the program, whichever command its words are.
+-- What each command makes, and what holds of a run of the program, whichever command its words are.
 use Rattle.std.specs.Prelude.{◌≡◌, ◌↔◌, ℕ, List}
-use Rattle.command_words.specs.Words.{Names, unknown, inspect, audit, make, asked_by}
+use Rattle.capture_generator.specs.Packets.{generated_capture}
+use Rattle.command_words.specs.Words.{Names, Asked, unknown, inspect, audit, make, trial, asked_by}
 use Rattle.command_words.specs.declared.command.Settings.{Settings}
-use Rattle.report.specs.Fault.{no_command}
-use Rattle.tdsl_tool.specs.Audit.{Audited}
-use Rattle.tdsl_tool.specs.Making.{Made}
-use Rattle.tdsl_tool.specs.Run.{Run, source, reading, TellsLine, Inspected}
+use Rattle.report.specs.Fault.{Cause, no_command, no_memory}
+use Rattle.tdsl_tool.specs.Audit.{IsAuditOf, StopsAtJournal, Audited}
+use Rattle.tdsl_tool.specs.Making.{IsSummary, ReadsNothing}
+use Rattle.tdsl_tool.specs.Run.{Folder, Run, IsRunOf, source, reading, ComesTo, StopsAt, TellsLine, Inspected}
+use Rattle.tdsl_tool.specs.Verdict.{reports}
 
--- what holds of a run for these words: which command they are, and what holds of a run of each
+-- the text is what is asked for, of these files
+abbrev pub IsOutput : Asked → Folder → List ℕ → Type 0
+IsOutput unknown files text = ⊥
+IsOutput (inspect names settings) files text = ComesTo (reading files names settings) (reports text)
+IsOutput (audit name) files text = IsAuditOf (source files name) (reports text)
+IsOutput (make seed frames) files text = text ≡ generated_capture seed frames
+IsOutput (trial seed frames) files text = IsSummary seed frames text
+
+-- this keeps a command from making it. Want of memory is free.
+abbrev pub IsStop : Asked → Folder → Cause → Type 0
+IsStop unknown files cause = cause ≡ no_command
+IsStop (inspect names settings) files cause = StopsAt (reading files names settings) cause
+IsStop (audit name) files cause = StopsAtJournal (source files name) cause
+IsStop (make seed frames) files cause = cause ≡ no_memory
+IsStop (trial seed frames) files cause = cause ≡ no_memory
+
+-- the command reads no file
+abbrev pub IsAlone : Asked → Type 0
+IsAlone (make seed frames) = Unit {0}
+IsAlone (trial seed frames) = Unit {0}
+IsAlone asked = ⊥
+
+-- what holds of a run for these words: what holds of the run of each command, and what holds of each beside
 pub record Ran (words : List (List ℕ)) (run : Run) : Type 0 where
   -- 1 comes exactly where the words are no command
   pub usage : (run.status ≡ 1) ↔ (asked_by words ≡ unknown)
   -- then the usage is told, and nothing is written
   pub usage_line : run.status ≡ 1 → TellsLine run.faults no_command × (run.out.after ≡ run.out.before)
-  pub inspection : (names : Names) (settings : Settings) → asked_by words ≡ inspect names settings → Inspected run (reading run.content run.before run.after names settings)
-  pub audit_of : (name : List ℕ) → asked_by words ≡ audit name → Audited run (source run.content run.before run.after name)
-  pub making : (seed frames : ℕ) → asked_by words ≡ make seed frames → Made run seed frames
+  pub ends : IsRunOf (IsOutput (asked_by words) run.files) (IsStop (asked_by words) run.files) run
+  pub inspection : (names : Names) (settings : Settings) → asked_by words ≡ inspect names settings → Inspected run (reading run.files names settings)
+  pub audit_of : (name : List ℕ) → asked_by words ≡ audit name → Audited run (source run.files name)
+  pub alone : IsAlone (asked_by words) → ReadsNothing run

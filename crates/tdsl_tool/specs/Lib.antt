@@ -1,6 +1,7 @@
 pub mod Inspection
 pub mod Members
 pub mod Verdict
+pub mod Found
 pub mod Run
 pub mod Audit
 pub mod Commands

@@ -1,38 +1,28 @@
--- How the making of a capture ends, and what a run of it leaves.
-use Rattle.std.specs.Prelude.{◌≡◌, ◌≢◌, ◌⊎◌, ℕ, List}
-use Rattle.byte_ends.specs.Told.{Grows, GrowsByPrefix}
+-- The commands that read no file: what a trial writes, and what holds of a run of them.
+use Rattle.std.specs.Prelude.{◌≡◌, ◌⊎◌, ℕ, List}
+use Rattle.capture_terms.specs.Capture.{Contents}
 use Rattle.capture_generator.specs.Packets.{generated_capture}
-use Rattle.report.specs.Fault.{unwritten, no_memory}
-use Rattle.tdsl_tool.specs.Run.{Writing, IsFaulty, Ending, finished, faulted, ending_status, Tells, Run}
+use Rattle.capture_generator.specs.Reading.{IsReadAs}
+use Rattle.capture_generator.specs.TrialRules.{trial_list}
+use Rattle.command_words.specs.declared.command.Settings.{Settings}
+use Rattle.tdsl_tool.specs.Inspection.{summary_of}
+use Rattle.tdsl_tool.specs.Run.{Run, IsFaulty}
 
--- the capture of this seed with so many frames was written
-abbrev pub IsMade : ℕ → ℕ → Writing → Type 0
-IsMade seed frames out = Grows out.before out.after (generated_capture seed frames)
+-- the settings of a trial
+abbrev pub trial_settings : Settings
+trial_settings = record { findings = 1048576; window = 30 }
 
--- a prefix of it was, and calls of the sink failed
-abbrev pub IsCutInMaking : ℕ → ℕ → Writing → Type 0
-IsCutInMaking seed frames out = GrowsByPrefix out.before out.after (generated_capture seed frames) × IsFaulty out
+-- the text is the summary of the capture that is generated from a seed with so many frames, under the rules of a trial
+abbrev pub IsSummary : ℕ → ℕ → List ℕ → Type 0
+IsSummary seed frames text =
+    (contents : Contents) × IsReadAs seed frames contents
+    × (text ≡ summary_of seed frames trial_list (generated_capture seed frames) trial_settings.window contents)
 
--- why the making ends so, and what it wrote: for want of memory nothing
-abbrev pub MakeEndsSo : ℕ → ℕ → Writing → Ending → Type 0
-MakeEndsSo seed frames out finished = IsMade seed frames out
-MakeEndsSo seed frames out (faulted unwritten) = IsCutInMaking seed frames out
-MakeEndsSo seed frames out (faulted no_memory) = out.after ≡ out.before
-MakeEndsSo seed frames out (faulted cause) = ⊥
-
--- what holds of the run of a making
-pub record Made (run : Run) (seed frames : ℕ) : Type 0 where
-  -- with 0 the capture was written, and nothing is told
-  pub output : run.status ≡ 0 → IsMade seed frames run.out × (run.faults.after ≡ run.faults.before)
-  -- 3 comes only where calls of standard output failed, and a prefix was written
-  pub write : run.status ≡ 3 → IsCutInMaking seed frames run.out
-  -- no other status comes but that of want of memory
+-- what holds of the run of a command that reads no file beside
+pub record ReadsNothing (run : Run) : Type 0 where
+  -- no other status comes but those of its output, of a prefix of it, and of want of memory
   pub own : (run.status ≡ 0) ⊎ (run.status ≡ 3) ⊎ (run.status ≡ 7)
   -- no call for a file failed, since none was made
-  pub no_file : (file : List ℕ) → run.after file ≡ run.before file
-  -- where no call of standard output failed the capture is written, unless memory was wanted
+  pub no_file : (file : List ℕ) → run.files.after file ≡ run.files.before file
+  -- where no call of standard output failed the output is written, unless memory was wanted
   pub complete : ¬ IsFaulty run.out → (run.status ≡ 0) ⊎ (run.status ≡ 7)
-  -- the status has its cause, and the line on standard error is that of the cause
-  pub fault_line : (ending : Ending) × (run.status ≡ ending_status ending) × MakeEndsSo seed frames run.out ending × Tells run.faults ending
-  -- with a status other than 0 and 3 nothing is written
-  pub nothing_out : run.status ≢ 0 → run.status ≢ 3 → run.out.after ≡ run.out.before

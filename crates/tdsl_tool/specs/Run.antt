@@ -1,5 +1,6 @@
 -- How a run of the program ends, and what it leaves.
-use Rattle.std.specs.Prelude.{◌≡◌, ◌≢◌, ◌⊎◌, ℕ, ◌<◌, List, length, Option, Result, Ok, Err}
+use Rattle.std.specs.Prelude.{◌≡◌, ◌≢◌, ◌⊎◌, ℕ, ◌<◌, List, length, Option, Result, Ok, Err, Vec}
+use Rattle.std.specs.declared.alloc.Global.{Global}
 use Rattle.byte_ends.specs.Told.{Rose, IfTold, Grows, GrowsByPrefix}
 use Rattle.rule_terms.specs.Rule.{Rule}
 use Rattle.command_words.specs.Words.{Names}
@@ -18,9 +19,19 @@ pub record Source : Type 0 where
   pub before : ℕ
   pub after : ℕ
 
--- the file of a name, of files with these bytes and counts
-abbrev pub source : (List ℕ → Option (List ℕ)) → (List ℕ → ℕ) → (List ℕ → ℕ) → List ℕ → Source
-source content before after name = record { name = name; told = content name; before = before name; after = after name }
+-- the files of a run by name: their bytes where these are told, and how often calls for each had failed
+-- before and after
+pub record Folder : Type 0 where
+  pub content : List ℕ → Option (List ℕ)
+  pub before : List ℕ → ℕ
+  pub after : List ℕ → ℕ
+
+abbrev pub folder : (List ℕ → Option (List ℕ)) → (List ℕ → ℕ) → (List ℕ → ℕ) → Folder
+folder content before after = record { content = content; before = before; after = after }
+
+-- the file of a name
+abbrev pub source : Folder → List ℕ → Source
+source files name = record { name = name; told = files.content name; before = files.before name; after = files.after name }
 
 -- calls for the file failed
 abbrev pub HasFailed : Source → Type 0
@@ -32,10 +43,10 @@ pub record Reading : Type 0 where
   pub capture : Source
   pub settings : Settings
 
-abbrev pub reading : (List ℕ → Option (List ℕ)) → (List ℕ → ℕ) → (List ℕ → ℕ) → Names → Settings → Reading
-reading content before after names settings = record {
-  rules = source content before after names.rules;
-  capture = source content before after names.capture;
+abbrev pub reading : Folder → Names → Settings → Reading
+reading files names settings = record {
+  rules = source files names.rules;
+  capture = source files names.capture;
   settings = settings;
 }
 
@@ -87,6 +98,13 @@ StopsReading file (unread name) = (name ≡ file.name) × HasFailed file
 StopsReading file (long_file name) = (name ≡ file.name) × IfTold file.told (λ bytes. max_file < length bytes)
 StopsReading file no_memory = Unit {0}
 StopsReading file cause = ⊥
+
+-- a text that gives no rules
+abbrev pub StopsInRules : List ℕ → Cause → Type 0
+StopsInRules text (bad_line number) = HasBadLine text number
+StopsInRules text many_rules = HasManyRules text
+StopsInRules text no_memory = Unit {0}
+StopsInRules text cause = ⊥
 
 -- a rule file that gives no rules
 abbrev pub StopsAtRules : Source → Cause → Type 0
@@ -140,31 +158,54 @@ abbrev pub Tells : Writing → Ending → Type 0
 Tells sink finished = sink.after ≡ sink.before
 Tells sink (faulted cause) = TellsLine sink cause
 
--- the report of the files was written
-abbrev pub IsReported : Reading → Writing → Type 0
-IsReported of out = (text : List ℕ) × ComesTo of (reports text) × Grows out.before out.after text
+-- Writing what a command made.
 
--- a prefix of it was written, and calls of the sink failed
-abbrev pub IsCutOff : Reading → Writing → Type 0
-IsCutOff of out = (text : List ℕ) × ComesTo of (reports text) × GrowsByPrefix out.before out.after text × IsFaulty out
+-- what it made: a text, or a fault
+abbrev pub outcome_of : Result (Vec ℕ Global) Fault → Verdict
+outcome_of (Ok text) = reports text.items
+outcome_of (Err fault) = stops (cause_of fault)
 
--- why an inspection ends so, and what it wrote
-abbrev pub EndsSo : Reading → Writing → Ending → Type 0
-EndsSo of out finished = IsReported of out
-EndsSo of out (faulted unwritten) = IsCutOff of out
-EndsSo of out (faulted cause) = StopsAt of cause × (out.after ≡ out.before)
+-- a text was written, or a prefix of it where calls of the sink failed; for a fault nothing was
+abbrev pub IsPut : Verdict → Writing → Ending → Type 0
+IsPut (reports text) out finished = Grows out.before out.after text
+IsPut (reports text) out (faulted unwritten) = GrowsByPrefix out.before out.after text × IsFaulty out
+IsPut (reports text) out (faulted other) = ⊥
+IsPut (stops cause) out finished = ⊥
+IsPut (stops cause) out (faulted other) = (other ≡ cause) × (out.after ≡ out.before)
+
+-- one of these texts was written
+abbrev pub IsWritten : (List ℕ → Type 0) → Writing → Type 0
+IsWritten Is out = (text : List ℕ) × Is text × Grows out.before out.after text
+
+-- a prefix of one was, and calls of the sink failed
+abbrev pub IsCutOff : (List ℕ → Type 0) → Writing → Type 0
+IsCutOff Is out = (text : List ℕ) × Is text × GrowsByPrefix out.before out.after text × IsFaulty out
+
+-- why a command that makes these texts, or stops for these causes, ends so, and what it wrote
+abbrev pub EndsSo : (List ℕ → Type 0) → (Cause → Type 0) → Writing → Ending → Type 0
+EndsSo Is Stops out finished = IsWritten Is out
+EndsSo Is Stops out (faulted unwritten) = IsCutOff Is out
+EndsSo Is Stops out (faulted cause) = Stops cause × (out.after ≡ out.before)
 
 -- What holds of a run.
 
--- a run of the program: the files' bytes and counts of faults by name, what became of standard output
--- and standard error, and the status
+-- a run of the program: its files, what became of standard output and standard error, and the status
 pub record Run : Type 0 where
-  pub content : List ℕ → Option (List ℕ)
-  pub before : List ℕ → ℕ
-  pub after : List ℕ → ℕ
+  pub files : Folder
   pub out : Writing
   pub faults : Writing
   pub status : ℕ
+
+-- what holds of the run of each command, by the texts that it makes and the causes that it stops for
+pub record IsRunOf (Is : List ℕ → Type 0) (Stops : Cause → Type 0) (run : Run) : Type 0 where
+  -- with 0 such a text was written, and nothing is told
+  pub output : run.status ≡ 0 → IsWritten Is run.out × (run.faults.after ≡ run.faults.before)
+  -- 3 comes only where calls of standard output failed, and a prefix of such a text was written
+  pub write : run.status ≡ 3 → IsCutOff Is run.out
+  -- the status has its cause, and the line on standard error is that of the cause
+  pub fault_line : (ending : Ending) × (run.status ≡ ending_status ending) × EndsSo Is Stops run.out ending × Tells run.faults ending
+  -- with a status other than 0 and 3 nothing is written
+  pub nothing_out : run.status ≢ 0 → run.status ≢ 3 → run.out.after ≡ run.out.before
 
 -- the status is this one, unless memory was wanted or a read failed
 abbrev pub EndsBy : ℕ → ℕ → Type 0
@@ -174,14 +215,10 @@ EndsBy status wanted = (status ≡ wanted) ⊎ (status ≡ 7) ⊎ (status ≡ 2)
 abbrev pub Exactly : ℕ → ℕ → Type 0 → Type 0
 Exactly status wanted Fact = (status ≡ wanted → Fact) × (Fact → EndsBy status wanted)
 
--- what holds of the run of an inspection
+-- what holds of the run of an inspection beside
 pub record Inspected (run : Run) (of : Reading) : Type 0 where
-  -- with 0 the report was written, and nothing is told
-  pub report : run.status ≡ 0 → IsReported of run.out × (run.faults.after ≡ run.faults.before)
   -- 2 comes only where calls for the rule file failed, or calls for the capture file behind rules that stand
   pub read : run.status ≡ 2 → HasFailed of.rules ⊎ (HasFailed of.capture × IfRulesTold of IsOfRules)
-  -- 3 comes only where calls of standard output failed, and a prefix of the report was written
-  pub write : run.status ≡ 3 → IsCutOff of run.out
   -- 4 comes only where the rule file isn't too long and has a first bad line
   pub bad_rules : run.status ≡ 4 → IfRulesTold of (λ text. (number : ℕ) × HasBadLine text number)
   -- a rule file that is refused decides the status, whatever the capture file is
@@ -190,7 +227,3 @@ pub record Inspected (run : Run) (of : Reading) : Type 0 where
   pub refused_files : IfBothTold of (λ text bytes. (status : ℕ) → 3 < status → status ≢ 7 → Exactly run.status status (HasStatus of text bytes status))
   -- where there is a report and no call for it failed, it is written, unless memory was wanted
   pub complete : IfBothTold of (λ text bytes. HasStatus of text bytes 0 → ¬ HasFailed of.rules → ¬ HasFailed of.capture → ¬ IsFaulty run.out → (run.status ≡ 0) ⊎ (run.status ≡ 7))
-  -- the status has its cause, and the line on standard error is that of the cause
-  pub fault_line : (ending : Ending) × (run.status ≡ ending_status ending) × EndsSo of run.out ending × Tells run.faults ending
-  -- with a status other than 0 and 3 nothing is written
-  pub nothing_out : run.status ≢ 0 → run.status ≢ 3 → run.out.after ≡ run.out.before

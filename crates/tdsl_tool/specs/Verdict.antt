@@ -123,6 +123,10 @@ pub record IsVerdictUnder (settings : Settings) (rules : List Rule) (name bytes 
 abbrev pub SomeAnswerOf : Type 0
 SomeAnswerOf = (bytes : List ℕ) → (answer : Answer) × IsAnswerOf bytes answer
 
+-- and only one
+abbrev pub AnswerIsOne : Type 0
+AnswerIsOne = (bytes : List ℕ) (one two : Answer) → IsAnswerOf bytes one → IsAnswerOf bytes two → one ≡ two
+
 -- a rule file is one thing only
 abbrev pub RuleFileIsOne : Type 0
 RuleFileIsOne = (name text : List ℕ) (one two : RuleFile) → IsRuleFile name text one → IsRuleFile name text two → one ≡ two

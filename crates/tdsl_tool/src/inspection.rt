@@ -7,12 +7,13 @@ ghost use Rattle.pcapng_blocks.specs.Answer as pcapng;
 ghost use Rattle.rule_terms.specs.Rule.{Rule};
 ghost use Rattle.command_words.specs.declared.command.Settings as declared;
 ghost use Rattle.report.specs.Fault.{cause_of};
+ghost use Rattle.tdsl_tool.specs.Found.{IsInspection};
 ghost use Rattle.tdsl_tool.specs.Run.{StopsUnder};
 ghost use Rattle.tdsl_tool.specs.Verdict.{IsAnswerOf, IsVerdictUnder, reports, max_file};
 
-use crate::findings::{FindingsEnd, find_all};
+use crate::findings::{FindingsEnd, Found, find_all};
 use command_words::Settings;
-use ipv4_fragments::classify;
+use ipv4_fragments::{Plan, classify};
 use pcap_frames::{Capture, CaptureEnd, frames};
 use pcapng_blocks::{BlocksEnd, blocks, is_pcapng};
 use report::{CaptureFault, Fault, report_text};
@@ -67,6 +68,43 @@ fn capture_in<'a>(alloc: Global, bytes: &[u8]) -> Result<Capture, Fault<'a>>
     }
 }
 
+/// What an inspection finds.
+#[derive(Drop)]
+pub struct Inspection {
+    pub capture: Capture,
+    pub plan: Plan,
+    pub found: Found,
+}
+
+/// Inspects a capture file under rules, with these settings.
+pub fn inspection_of<'a>(
+    alloc: Global,
+    rules: &Rules,
+    bytes: &[u8],
+    settings: Settings,
+) -> Result<Inspection, Fault<'a>>
+    requires { length bytes.now ≤ max_file }
+    ensures found { IfOk result (IsInspection settings rules.now bytes.now) }
+    ensures stops { IfErr result (λ fault. (name : List ℕ) → StopsUnder settings rules.now name bytes.now (cause_of fault)) }
+{
+    let capture = match capture_in(alloc, bytes) {
+        Ok(capture) => capture,
+        Err(fault) => return Err(fault),
+    };
+    let Ok(plan) = classify(alloc, &capture, bytes, settings.window) else {
+        return Err(Fault::Memory);
+    };
+    match find_all(alloc, &plan, bytes, rules, settings.findings) {
+        Ok(found) => Ok(Inspection {
+            capture,
+            plan,
+            found,
+        }),
+        Err(FindingsEnd::TooMany) => Err(Fault::LimitFindings),
+        Err(FindingsEnd::Memory) => Err(Fault::Memory),
+    }
+}
+
 /// The report of a capture file under rules, with these settings.
 pub fn report_under<'a>(
     alloc: Global,
@@ -78,25 +116,17 @@ pub fn report_under<'a>(
     ensures report { IfOk result (λ text. (name : List ℕ) → IsVerdictUnder settings rules.now name bytes.now (reports text.items)) }
     ensures stops { IfErr result (λ fault. (name : List ℕ) → StopsUnder settings rules.now name bytes.now (cause_of fault)) }
 {
-    let capture = match capture_in(alloc, bytes) {
-        Ok(capture) => capture,
+    let it = match inspection_of(alloc, rules, bytes, settings) {
+        Ok(it) => it,
         Err(fault) => return Err(fault),
-    };
-    let Ok(plan) = classify(alloc, &capture, bytes, settings.window) else {
-        return Err(Fault::Memory);
-    };
-    let found = match find_all(alloc, &plan, bytes, rules, settings.findings) {
-        Ok(found) => found,
-        Err(FindingsEnd::TooMany) => return Err(Fault::LimitFindings),
-        Err(FindingsEnd::Memory) => return Err(Fault::Memory),
     };
     match report_text(
         alloc,
-        &capture,
-        &plan,
+        &it.capture,
+        &it.plan,
         rules,
-        found.incomplete,
-        &found.numbers,
+        it.found.incomplete,
+        &it.found.numbers,
     ) {
         Ok(text) => Ok(text),
         Err(_) => Err(Fault::Memory),

@@ -1,6 +1,7 @@
-//! Inspects captures of packets: `inspect [--window N] RULES CAPTURE` writes a report of what the rules
-//! find. Judges journals: `audit JOURNAL` tells whether a legal run may have written it. Makes captures:
-//! `make SEED FRAMES` writes one that is generated from a seed.
+//! Inspects captures of packets: `inspect [--findings N] [--window N] RULES CAPTURE` writes a report of
+//! what the rules find. Judges journals: `audit JOURNAL` tells whether a legal run may have written it.
+//! Makes captures: `make SEED FRAMES` writes one that is generated from a seed, and `trial SEED FRAMES`
+//! inspects one and writes the summary.
 #![tactic(auto)]
 
 #[cfg(test)]
@@ -17,6 +18,7 @@ mod laws;
 #[cfg(test)]
 mod making_tests;
 mod members;
+mod outputs;
 mod run;
 #[cfg(test)]
 mod tests;

@@ -8,6 +8,9 @@ pub(crate) const GREET: &[u8] = b"rule greet proto udp dport 53 has \"hello\"";
 
 pub(crate) const SEAM: &[u8] = b"rule seam proto icmp has \"ghij\"";
 
+// Two rules that each find something in `HELLO`.
+const TWO: &[u8] = b"rule a proto any has \"h\"\nrule b proto any has \"l\"";
+
 pub(crate) const HEADER: [u8; 24] = [
     0xd4, 0xc3, 0xb2, 0xa1, 2, 0, 4, 0, 0, 0, 0, 0, 0, 0, 0, 0, 0, 0, 4, 0, 1, 0, 0, 0,
 ];
@@ -183,20 +186,31 @@ fn reports_are_those_of_the_captures(rt: HostRuntime) -> Result<(), Fail> {
     hello.extend_from_slice(&HELLO)?;
     let mut torn = hello.as_slice().to_vec(alloc)?;
     torn.extend_from_slice(&[0; 10])?;
-    for (capture, counts, findings) in [
-        (HEADER.as_slice(), [0; 11], ""),
+    for (words, rules, capture, counts, findings) in [
+        (COMMAND.as_slice(), GREET, HEADER.as_slice(), [0; 11], ""),
         (
+            COMMAND.as_slice(),
+            GREET,
             hello.as_slice(),
             [1, 0, 0, 0, 1, 0, 0, 0, 1, 0, 1],
             "finding 0 greet 8\n",
         ),
         (
+            COMMAND.as_slice(),
+            GREET,
             torn.as_slice(),
             [1, 0, 0, 0, 1, 0, 0, 10, 1, 0, 1],
             "finding 0 greet 8\n",
         ),
+        (
+            ["inspect", "--findings", "2", "r", "c"].as_slice(),
+            TWO,
+            hello.as_slice(),
+            [1, 0, 0, 0, 1, 0, 0, 0, 1, 0, 2],
+            "finding 0 a 8\nfinding 0 b 10\n",
+        ),
     ] {
-        let got = inspected(alloc, &COMMAND, GREET, capture, 0)?;
+        let got = inspected(alloc, words, rules, capture, 0)?;
         assert_eq!(rt; got.status, 0);
         assert_eq!(rt;
             got.out.as_slice(),
@@ -365,6 +379,14 @@ fn faults_are_told_with_their_status(rt: HostRuntime) -> Result<(), Fail> {
             0,
             4,
             "bad rules: line 1\n",
+        ),
+        (
+            ["inspect", "--findings", "1", "r", "c"].as_slice(),
+            TWO,
+            hello.as_slice(),
+            0,
+            6,
+            "limit: findings\n",
         ),
     ] {
         let got = inspected(alloc, words, rules, capture, failing)?;

@@ -1,5 +1,8 @@
-use Rattle.tdsl_tool.proofs.OneVerdict.{rule_file_is_one, verdict_is_one}
+use Rattle.tdsl_tool.proofs.OneVerdict.{answer_is_one, rule_file_is_one, verdict_is_one}
 use Rattle.tdsl_tool.proofs.laws.one_verdict.Goals as goal
+
+pub returns-clause-answer : goal.returns-clause-answer
+returns-clause-answer c = answer_is_one c.one_answer.ensures c.one_answer_law.ensures
 
 pub returns-clause-rules : goal.returns-clause-rules
 returns-clause-rules c = rule_file_is_one c.text_has_one_reading.ensures

@@ -2,10 +2,10 @@ use Rattle.std.proofs.Common.{refl, ◌∙◌, inr, arith}
 use Rattle.std.proofs.lemmas.Result.{IfOk-weaker, IfErr-weaker}
 use Rattle.command_words.specs.Words.{names_of}
 use Rattle.report.specs.Fault.{cause_of}
-use Rattle.tdsl_tool.specs.Run.{source, reading}
+use Rattle.tdsl_tool.specs.Run.{folder, source, reading}
 use Rattle.tdsl_tool.specs.Verdict.{reports}
 use Rattle.tdsl_tool.proofs.Verdicts.{comes_to_of, stops_unread, stops_at}
-use Rattle.tdsl_tool.proofs.run.report_for.Goals as goal
+use Rattle.tdsl_tool.proofs.outputs.report_for.Goals as goal
 
 pub returns-in-Err-bytes_of-clause-stops : goal.returns-in-Err-bytes_of-clause-stops
 returns-in-Err-bytes_of-clause-stops g c =
@@ -13,9 +13,9 @@ returns-in-Err-bytes_of-clause-stops g c =
     let faults = g.F.Files.faults in
     let capture = c.args.names.capture.now in
     inr (stops_unread
-    (reading (content c.args.files.now) (faults c.args.files.now) (faults c.bytes_of.new.files) (names_of c.args.names) c.args.settings)
+    (reading (folder (content c.args.files.now) (faults c.args.files.now) (faults c.bytes_of.new.files)) (names_of c.args.names) c.args.settings)
     c.in-Ok.rules c.in-Ok.ensures.rules
-    (source (content c.rules_from.new.files) (faults c.rules_from.new.files) (faults c.bytes_of.new.files) capture)
+    (source (folder (content c.rules_from.new.files) (faults c.rules_from.new.files) (faults c.bytes_of.new.files)) capture)
     refl (c.rules_from.ensures.content capture) (λ failed. omega (arith, c.rules_from.ensures.counts capture, failed))
     (cause_of c.in-Err-bytes_of.fault) c.in-Err-bytes_of.ensures.stops)
 
@@ -26,7 +26,7 @@ returns-clause-report g c =
     let capture = c.args.names.capture.now in
     IfOk-weaker c.report_under.result _ _
     (λ text under. comes_to_of
-    (reading (content c.args.files.now) (faults c.args.files.now) (faults c.bytes_of.new.files) (names_of c.args.names) c.args.settings)
+    (reading (folder (content c.args.files.now) (faults c.args.files.now) (faults c.bytes_of.new.files)) (names_of c.args.names) c.args.settings)
     c.in-Ok.rules c.in-Ok.ensures.rules c.deref.result.now
     (λ bytes told. c.deref.ensures.value ∙ c.in-Ok-bytes_of.ensures.whole bytes (c.rules_from.ensures.content capture ∙ told))
     (reports text.items) (under capture))
@@ -39,7 +39,7 @@ returns-clause-stops g c =
     let capture = c.args.names.capture.now in
     IfErr-weaker c.report_under.result _ _
     (λ fault under. inr (stops_at
-    (reading (content c.args.files.now) (faults c.args.files.now) (faults c.bytes_of.new.files) (names_of c.args.names) c.args.settings)
+    (reading (folder (content c.args.files.now) (faults c.args.files.now) (faults c.bytes_of.new.files)) (names_of c.args.names) c.args.settings)
     c.in-Ok.rules c.in-Ok.ensures.rules c.deref.result.now
     (λ bytes told. c.deref.ensures.value ∙ c.in-Ok-bytes_of.ensures.whole bytes (c.rules_from.ensures.content capture ∙ told))
     (cause_of fault) (under capture)))

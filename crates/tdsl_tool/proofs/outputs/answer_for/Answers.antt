@@ -1,7 +1,7 @@
 use Rattle.std.proofs.Common.{◌≤◌, ◌∙◌, ℕ, List, length, inr, ap, subst, arith}
 use Rattle.journal_terms.specs.Legal.{IsFirstBadLine}
 use Rattle.tdsl_tool.specs.Verdict.{max_file}
-use Rattle.tdsl_tool.proofs.run.answer_for.Goals as goal
+use Rattle.tdsl_tool.proofs.outputs.answer_for.Goals as goal
 
 pub returns-in-Ok-No-clause-stops : goal.returns-in-Ok-No-clause-stops
 returns-in-Ok-No-clause-stops g c = λ bytes told.

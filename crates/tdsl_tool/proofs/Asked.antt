@@ -1,0 +1,91 @@
+-- What holds of a run of the program, whichever command its words are.
+use Rattle.std.proofs.Common.{◌≡◌, inl, inr, ℕ, List, Result, refl, sym, ◌∙◌, ap, subst, arith}
+use Rattle.std.specs.Prelude.{IfOk, IfErr, Vec}
+use Rattle.std.specs.declared.alloc.Global.{Global}
+use Rattle.journal_terms.specs.Legal.{FirstBadLines}
+use Rattle.command_words.specs.Words.{Asked, unknown, inspect, audit, make, trial, asked_by}
+use Rattle.report.specs.declared.fault.Fault.{Fault}
+use Rattle.report.specs.Fault.{Cause, no_command, unwritten, no_memory, cause_of, status_of}
+use Rattle.tdsl_tool.specs.Commands.{IsOutput, IsStop, IsAlone, Ran}
+use Rattle.tdsl_tool.specs.Making.{ReadsNothing}
+use Rattle.tdsl_tool.specs.Run.{Folder, Writing, Run, source, reading, Ending, finished, faulted, ending_status, Tells, TellsLine, outcome_of, IsPut, EndsSo}
+use Rattle.tdsl_tool.specs.Verdict.{RuleFileIsOne, SomeAnswerOf, VerdictIsOne}
+use Rattle.tdsl_tool.proofs.Ended.{ends_so, own_status, completed, is_run_of}
+use Rattle.tdsl_tool.proofs.Ran.{inspected}
+use Rattle.tdsl_tool.proofs.Audited.{audited}
+
+module _ (files : Folder) where
+  -- how a command ends
+  abbrev Ends : Asked → Writing → Ending → Type 0
+  Ends asked out ending = EndsSo (IsOutput asked files) (IsStop asked files) out ending
+
+  -- none stops for a failed write
+  none_unwritten : (asked : Asked) → ¬ IsStop asked files unwritten
+  none_unwritten unknown is = absurd (cc)
+  none_unwritten (inspect names settings) (inl why) = why
+  none_unwritten (inspect names settings) (inr why) = why
+  none_unwritten (audit name) why = why
+  none_unwritten (make seed frames) is = absurd (cc)
+  none_unwritten (trial seed frames) is = absurd (cc)
+
+  -- and none for words that are no command, but such words
+  no_command_only : (asked : Asked) → IsStop asked files no_command → asked ≡ unknown
+  no_command_only unknown is = refl
+  no_command_only (inspect names settings) (inl why) = absurd why
+  no_command_only (inspect names settings) (inr why) = absurd why
+  no_command_only (audit name) why = absurd why
+  no_command_only (make seed frames) is = absurd (cc)
+  no_command_only (trial seed frames) is = absurd (cc)
+
+  usage_only : (asked : Asked) (out : Writing) (ending : Ending) → Ends asked out ending → ending_status ending ≡ 1 → asked ≡ unknown
+  usage_only asked out (faulted no_command) ends is = no_command_only asked ends.0
+  usage_only asked out finished ends is = absurd (omega arith)
+  usage_only asked out (faulted cause) ends is = absurd (omega arith)
+
+  -- such words end with 1 and the usage
+  usage_told : (out faults : Writing) (ending : Ending) → Ends unknown out ending → Tells faults ending → (ending_status ending ≡ 1) × TellsLine faults no_command × (out.after ≡ out.before)
+  usage_told out faults finished ends tells = absurd ends.1
+  usage_told out faults (faulted unwritten) ends tells = absurd ends.1
+  usage_told out faults (faulted cause) ends tells = (ap status_of ends.0, subst (λ (c : Cause). TellsLine faults c) ends.0 tells, ends.1)
+
+  -- a command that reads no file stops for want of memory alone
+  memory_only : (asked : Asked) → IsAlone asked → (cause : Cause) → IsStop asked files cause → cause ≡ no_memory
+  memory_only (make seed frames) here cause is = is
+  memory_only (trial seed frames) here cause is = is
+  memory_only asked here cause is = absurd here
+
+module _ (one : VerdictIsOne) (one_file : RuleFileIsOne) (some : SomeAnswerOf) (bad_lines : FirstBadLines) where
+  module _ (words : List (List ℕ)) (run : Run) (ending : Ending) (is : run.status ≡ ending_status ending) (ends : Ends run.files (asked_by words) run.out ending) (tells : Tells run.faults ending) where
+    at : (asked : Asked) → asked_by words ≡ asked → Ends run.files asked run.out ending
+    at asked are = subst (λ (a : Asked). Ends run.files a run.out ending) are ends
+
+    usage_is : run.status ≡ 1 → asked_by words ≡ unknown
+    usage_is status = usage_only run.files (asked_by words) run.out ending ends (sym is ∙ status)
+
+    reads_nothing : ((file : List ℕ) → run.files.after file ≡ run.files.before file) → IsAlone (asked_by words) → ReadsNothing run
+    reads_nothing quiet alone =
+        let only = memory_only run.files (asked_by words) alone in
+        record {
+          own = own_status (IsOutput (asked_by words) run.files) (IsStop (asked_by words) run.files) run.out only ending run.status ends is;
+          no_file = quiet;
+          complete = completed (IsOutput (asked_by words) run.files) (IsStop (asked_by words) run.files) run.out only ending run.status ends is;
+        }
+
+    ran : (IsAlone (asked_by words) → (file : List ℕ) → run.files.after file ≡ run.files.before file) → Ran words run
+    ran quiet = record {
+      usage = (usage_is, λ none. is ∙ (usage_told run.files run.out run.faults ending (at unknown none) tells).0);
+      usage_line = λ status. let told = usage_told run.files run.out run.faults ending (at unknown (usage_is status)) tells in (told.1, told.2);
+      ends = is_run_of (IsOutput (asked_by words) run.files) (IsStop (asked_by words) run.files) run ending is ends tells;
+      inspection = λ names settings are. inspected one one_file some run (reading run.files names settings) ending is (at (inspect names settings) are);
+      audit_of = λ name are. audited bad_lines run (source run.files name) ending is (at (audit name) are);
+      alone = λ here. reads_nothing (quiet here) here;
+    }
+
+  -- a run that put what its command made
+  pub ran_by : (words : List (List ℕ)) (run : Run) (asked : Asked) (made : Result (Vec ℕ Global) Fault) (ending : Ending) → asked ≡ asked_by words
+      → IfOk made (λ text. IsOutput asked run.files text.items) → IfErr made (λ fault. IsStop asked run.files (cause_of fault)) → IsPut (outcome_of made) run.out ending
+      → (IsAlone asked → (file : List ℕ) → run.files.after file ≡ run.files.before file) → run.status ≡ ending_status ending → Tells run.faults ending → Ran words run
+  ran_by words run asked made ending are output stop put quiet is tells =
+      let ends = ends_so (IsOutput asked run.files) (IsStop asked run.files) run.out (none_unwritten run.files asked) made output stop ending put in
+      ran words run ending is (subst (λ (a : Asked). Ends run.files a run.out ending) are ends) tells
+      (λ alone. quiet (subst (λ (a : Asked). IsAlone a) (sym are) alone))

@@ -1,0 +1,193 @@
+// What each command makes, before any of it is written.
+ghost use Rattle.std.specs.Prelude.{◌≡◌, ℕ, ◌≤◌, List, length, IfOk, IfErr};
+ghost use Rattle.byte_ends.specs.Told.{IfTold};
+ghost use Rattle.capture_generator.specs.Packets.{generated_capture};
+ghost use Rattle.command_words.specs.Words.{names_of, asked_of};
+ghost use Rattle.report.specs.Fault.{cause_of, no_memory};
+ghost use Rattle.tdsl_tool.specs.Verdict.{reports, max_file, AreRules};
+ghost use Rattle.tdsl_tool.specs.Run.{folder, source, reading, ComesTo, StopsReading, StopsInRules, StopsAtRules, StopsAt};
+ghost use Rattle.tdsl_tool.specs.Audit.{IsAuditOf, StopsAtJournal};
+ghost use Rattle.tdsl_tool.specs.Making.{IsSummary};
+ghost use Rattle.tdsl_tool.specs.Commands.{IsOutput, IsStop, IsAlone};
+
+use crate::inspection::{inspection_of, report_under};
+use crate::laws::one_verdict;
+use byte_ends::{Files, ReadEnd, read_all};
+use capture_generator::{generated, generated_is_read_law, trial_rules, trial_rules_law};
+use command_words::{Command, FileNames, Making, Settings};
+use history_audit::{Verdict, audit};
+use report::{Fault, audit_text, summary_text};
+use rule_matcher::{Rules, RulesEnd, rules};
+use std::alloc::Global;
+
+/// The most bytes that a file may have: 64 MiB.
+const MAX_FILE: u64 = 67_108_864;
+
+/// The most findings of a trial, which has fewer whatever its capture is.
+const TRIAL_FINDINGS: u32 = 1_048_576;
+
+/// The window of a trial, in seconds.
+const TRIAL_WINDOW: u32 = 30;
+
+// The bytes of a file.
+fn bytes_of<'a, F: Files>(alloc: Global, files: &mut F, name: &'a str) -> Result<Vec<u8>, Fault<'a>>
+    ensures whole { IfOk result (λ bytes. IfTold (F.content files.old name.now) (λ file. bytes.items ≡ file)) }
+    ensures short { IfOk result (λ bytes. length bytes.items ≤ max_file) }
+    ensures stops { IfErr result (λ fault. StopsReading (source (folder (F.content files.old) (F.faults files.old) (F.faults files.new)) name.now) (cause_of fault)) }
+    ensures content { (file : List ℕ) → F.content files.new file ≡ F.content files.old file }
+    ensures counts { (file : List ℕ) → F.faults files.old file ≤ F.faults files.new file }
+{
+    match read_all(alloc, files, name, MAX_FILE) {
+        Ok(bytes) => Ok(bytes),
+        Err(ReadEnd::Read) => Err(Fault::Read(name)),
+        Err(ReadEnd::TooLong) => Err(Fault::LimitFile(name)),
+        Err(ReadEnd::Memory) => Err(Fault::Memory),
+    }
+}
+
+// The rules of a text.
+fn rules_in<'a>(alloc: Global, text: &[u8]) -> Result<Rules, Fault<'a>>
+    requires { length text.now ≤ max_file }
+    ensures rules { IfOk result (AreRules text.now) }
+    ensures stops { IfErr result (λ fault. StopsInRules text.now (cause_of fault)) }
+{
+    match rules(alloc, text) {
+        Ok(rules) => Ok(rules),
+        Err(RulesEnd::Line { number }) => Err(Fault::Rules { line: number }),
+        Err(RulesEnd::TooMany) => Err(Fault::LimitRules),
+        Err(RulesEnd::Memory) => Err(Fault::Memory),
+    }
+}
+
+// The rules of a file.
+fn rules_from<'a, F: Files>(alloc: Global, files: &mut F, name: &'a str) -> Result<Rules, Fault<'a>>
+    ensures rules { IfOk result (λ rules. IfTold (F.content files.old name.now) (λ text. AreRules text rules)) }
+    ensures stops { IfErr result (λ fault. StopsAtRules (source (folder (F.content files.old) (F.faults files.old) (F.faults files.new)) name.now) (cause_of fault)) }
+    ensures content { (file : List ℕ) → F.content files.new file ≡ F.content files.old file }
+    ensures counts { (file : List ℕ) → F.faults files.old file ≤ F.faults files.new file }
+{
+    let text = match bytes_of(alloc, files, name) {
+        Ok(text) => text,
+        Err(fault) => return Err(fault),
+    };
+    rules_in(alloc, &text)
+}
+
+// The report of an inspection.
+fn report_for<'a, F: Files>(
+    alloc: Global,
+    files: &mut F,
+    names: FileNames<'a>,
+    settings: Settings,
+) -> Result<Vec<u8>, Fault<'a>>
+    ensures report { IfOk result (λ text. ComesTo (reading (folder (F.content files.old) (F.faults files.old) (F.faults files.new)) (names_of names.entry) settings) (reports text.items)) }
+    ensures stops { IfErr result (λ fault. StopsAt (reading (folder (F.content files.old) (F.faults files.old) (F.faults files.new)) (names_of names.entry) settings) (cause_of fault)) }
+    ensures content { (file : List ℕ) → F.content files.new file ≡ F.content files.old file }
+    ensures counts { (file : List ℕ) → F.faults files.old file ≤ F.faults files.new file }
+{
+    let rules = match rules_from(alloc, files, names.rules) {
+        Ok(rules) => rules,
+        Err(fault) => return Err(fault),
+    };
+    let bytes = match bytes_of(alloc, files, names.capture) {
+        Ok(bytes) => bytes,
+        Err(fault) => return Err(fault),
+    };
+    report_under(alloc, &rules, &bytes, settings)
+}
+
+// What is told of a journal.
+fn answer_for<'a, F: Files>(
+    alloc: Global,
+    files: &mut F,
+    name: &'a str,
+) -> Result<Vec<u8>, Fault<'a>>
+    ensures told { IfOk result (λ text. IsAuditOf (source (folder (F.content files.old) (F.faults files.old) (F.faults files.new)) name.now) (reports text.items)) }
+    ensures stops { IfErr result (λ fault. StopsAtJournal (source (folder (F.content files.old) (F.faults files.old) (F.faults files.new)) name.now) (cause_of fault)) }
+    ensures content { (file : List ℕ) → F.content files.new file ≡ F.content files.old file }
+    ensures counts { (file : List ℕ) → F.faults files.old file ≤ F.faults files.new file }
+{
+    let text = match bytes_of(alloc, files, name) {
+        Ok(text) => text,
+        Err(fault) => return Err(fault),
+    };
+    match audit(alloc, &text) {
+        Ok(Verdict::Yes { records, sights }) => match audit_text(alloc, records, sights) {
+            Ok(text) => Ok(text),
+            Err(_) => Err(Fault::Memory),
+        },
+        Ok(Verdict::No { line }) => Err(Fault::NotLegal { line }),
+        Err(_) => Err(Fault::Memory),
+    }
+}
+
+// A generated capture.
+fn capture_for<'a>(alloc: Global, making: Making) -> Result<Vec<u8>, Fault<'a>>
+    ensures bytes { IfOk result (λ bytes. bytes.items ≡ generated_capture making.seed making.frames) }
+    ensures short { IfOk result (λ bytes. length bytes.items ≤ max_file) }
+    ensures stops { IfErr result (λ fault. cause_of fault ≡ no_memory) }
+{
+    match generated(alloc, making.seed, making.frames) {
+        Ok(bytes) => Ok(bytes),
+        Err(_) => Err(Fault::Memory),
+    }
+}
+
+// The summary of a trial, whose rules and capture are its own.
+fn summary_for<'a>(alloc: Global, making: Making) -> Result<Vec<u8>, Fault<'a>>
+    ensures summary { IfOk result (λ text. IsSummary making.seed making.frames text.items) }
+    ensures stops { IfErr result (λ fault. cause_of fault ≡ no_memory) }
+{
+    one_verdict();
+    trial_rules_law();
+    generated_is_read_law();
+    let rules = match rules_in(alloc, trial_rules()) {
+        Ok(rules) => rules,
+        Err(fault) => return Err(fault),
+    };
+    let bytes = match capture_for(alloc, making) {
+        Ok(bytes) => bytes,
+        Err(fault) => return Err(fault),
+    };
+    let settings = Settings {
+        findings: TRIAL_FINDINGS,
+        window: TRIAL_WINDOW,
+    };
+    let it = match inspection_of(alloc, &rules, &bytes, settings) {
+        Ok(it) => it,
+        Err(fault) => return Err(fault),
+    };
+    match summary_text(
+        alloc,
+        making.seed,
+        making.frames,
+        &it.capture,
+        &it.plan,
+        it.found.incomplete,
+        &it.found.numbers,
+    ) {
+        Ok(text) => Ok(text),
+        Err(_) => Err(Fault::Memory),
+    }
+}
+
+/// What a command makes: the text that it is to write, or why there is none.
+pub fn output_of<'a, F: Files>(
+    alloc: Global,
+    files: &mut F,
+    command: Command<'a>,
+) -> Result<Vec<u8>, Fault<'a>>
+    ensures output { IfOk result (λ text. IsOutput (asked_of command.entry) (folder (F.content files.old) (F.faults files.old) (F.faults files.new)) text.items) }
+    ensures stops { IfErr result (λ fault. IsStop (asked_of command.entry) (folder (F.content files.old) (F.faults files.old) (F.faults files.new)) (cause_of fault)) }
+    ensures alone { IsAlone (asked_of command.entry) → (file : List ℕ) → F.faults files.new file ≡ F.faults files.old file }
+    ensures content { (file : List ℕ) → F.content files.new file ≡ F.content files.old file }
+    ensures counts { (file : List ℕ) → F.faults files.old file ≤ F.faults files.new file }
+{
+    match command {
+        Command::Unknown => Err(Fault::Usage),
+        Command::Inspect { names, settings } => report_for(alloc, files, names, settings),
+        Command::Audit { journal } => answer_for(alloc, files, journal),
+        Command::Make(making) => capture_for(alloc, making),
+        Command::Trial(making) => summary_for(alloc, making),
+    }
+}
