@@ -1,0 +1,4 @@
+pub mod Stacks
+pub mod Facts
+pub mod Runs
+pub mod Laws

@@ -1,0 +1,7 @@
+//! A stack on plain cells of a store.
+#![tactic(auto)]
+
+pub mod laws;
+mod part;
+
+pub use part::StackPart;
