@@ -1,18 +1,18 @@
 -- Calls of cells that are read as calls on stacks run on the lists, so that allowed records keep the cells lawful: facts for the purpose that is
 -- proved where it is stated.
-use Rattle.std.proofs.Common.{◌≡◌, ℕ, zero, suc, ◌+◌, ◌-◌, ◌<◌, ◌≤◌, Bool, List, [], ◌∷◌, ◌++◌, length, sym, refl, ap, ◌∙◌, subst, arith}
-use Rattle.serial_terms.specs.declared.call.Call.{Call}
+use Rattle.std.proofs.Common.{◌≡◌, ℕ, zero, suc, ◌+◌, ◌-◌, ◌<◌, ◌≤◌, Bool, List, [], ◌∷◌, ◌++◌, length, append_assoc, sym, refl, ap, ◌∙◌, subst, arith}
 use Rattle.serial_terms.specs.declared.call.Reply.TheVariants.{Value}
 use Rattle.serial_terms.specs.declared.call.Done.{Done}
 use Rattle.serial_terms.specs.Counts.{with_at}
 use Rattle.serial_terms.specs.Entries.{Each, IsIn}
 use Rattle.serial_terms.specs.Facts.{with_at_same, with_at_other}
 use Rattle.serial_terms.specs.Histories.{Runs}
-use Rattle.serial_terms.specs.Names.{own_key, of_key_map}
-use Rattle.serial_terms.specs.Renaming.{OfKey, MayName, with_key, SameButKeys}
+use Rattle.serial_terms.specs.Names.{own_calls}
+use Rattle.serial_terms.specs.Ranges.{BelowCapacity}
+use Rattle.serial_terms.specs.Renaming.{SameButKeys}
 use Rattle.serial_terms.specs.Serial.{State, put_cell, rest}
 use Rattle.tx_stack.specs.declared.part.StackPart.{StackPart}
-use Rattle.tx_stack.specs.Stacks.{items_at, StandForStacks, IsLawful, Act, counted, pushed, shown, popped, StackCall, HasRoom, more_calls, cell_calls, all_cell_calls, IsStackCall, IsReadAs, IsAllowed, IsAnswered, IsListFor, lists_after, stepped, RunsOnLists, RunsToStacks}
+use Rattle.tx_stack.specs.Stacks.{items_at, StandForStacks, IsLawful, Act, counted, pushed, shown, popped, StackCall, HasRoom, cell_calls, all_cell_calls, IsStackCall, IsAllowed, IsAnswered, IsListFor, lists_after, stepped, RunsOnLists, RunsToStacks}
 use Rattle.tx_stack.specs.Facts.{items_count, items_same, items_top, changed}
 
 value_is : (m n : ℕ) → Value m ≡ Value n → n ≡ m
@@ -85,35 +85,19 @@ ends_lawful parts dones s t l allowed r =
     let runs = all_run parts allowed.0 s t l.0 l.1 allowed.1.each (subst (λ (ds : List Done). Runs s ds t) allowed.1.all r) in
     (runs.end, runs.stand)
 
--- ---- no call of a cell has a key
+-- the same record with other keys is the same record, where each key is its own name
+pub renamed_allowed : (parts : List StackPart) (dones others : List Done) → SameButKeys BelowCapacity dones others → IsAllowed parts dones → IsAllowed parts others
+renamed_allowed parts dones others same allowed = subst (IsAllowed parts) (sym (own_calls BelowCapacity (λ c j low. low) dones others same)) allowed
 
-abbrev HasNoKey : Done → Type 0
-HasNoKey d = OfKey (λ m k. ⊥) d.call
-
-keyless_then : (xs ys : List Done) → Each HasNoKey xs → Each HasNoKey ys → Each HasNoKey (xs ++ ys)
-keyless_then [] ys a b = b
-keyless_then (x ∷ xs) ys a b = (a.0, keyless_then xs ys a.1 b)
-
-keyless_more : (p : StackPart) (n : ℕ) (b : Bool) (act : Act) → Each HasNoKey (more_calls p n b act)
-keyless_more p n b counted = tt
-keyless_more p n b (pushed v) = (tt, (tt, tt))
-keyless_more p n b (shown v) = (tt, tt)
-keyless_more p n b (popped v) = (tt, (tt, tt))
-
-keyless : (calls : List StackCall) → Each HasNoKey (all_cell_calls calls)
-keyless [] = tt
-keyless (c ∷ cs) = (tt, keyless_then (more_calls c.part c.had c.child c.act) (all_cell_calls cs) (keyless_more c.part c.had c.child c.act) (keyless cs))
-
-same_calls : (passes : ℕ → ℕ → Type 0) (ds es : List Done) → Each HasNoKey ds → SameButKeys passes ds es → es ≡ ds
-same_calls passes [] [] k a = refl
-same_calls passes [] (e ∷ es) k a = absurd a
-same_calls passes (d ∷ ds) [] k a = absurd a
-same_calls passes (d ∷ ds) (e ∷ es) k a =
-    let c : with_key a.0.0 d.call ≡ d.call = own_key a.0.0 d.call (of_key_map (λ m j. ⊥) (λ m j. a.0.0 ≡ j) (λ m j none. absurd none) d.call k.0) in
-    let more = same_calls passes ds es k.1 a.1 in
-    let same : e ≡ d = a.0.2 ∙ (λ i. record { call = c i; reply = d.reply; child = d.child }) in λ i. same i ∷ more i
-
--- so that the same calls with other keys are the same calls
-pub renamed_allowed : (parts : List StackPart) (passes : ℕ → ℕ → Type 0) (dones others : List Done) → SameButKeys passes dones others → IsAllowed parts dones → IsAllowed parts others
-renamed_allowed parts passes dones others same allowed =
-    subst (IsAllowed parts) (sym (same_calls passes dones others (subst (Each HasNoKey) (sym allowed.1.all) (keyless allowed.0)) same)) allowed
+-- where calls that are read as calls on stacks run from a lawful state, the length of a stack that is read behind them is within its capacity
+pub read_within : (parts : List StackPart) (p : StackPart) → IsIn p parts → (n : ℕ) (b : Bool) (calls : List StackCall) (s t : State) (lists : ℕ → List ℕ) → StandForStacks parts s.cells lists
+    → Each (IsStackCall parts) calls → Runs s (all_cell_calls calls ++ cell_calls (record { part = p; had = n; child = b; act = counted })) t → n ≤ p.capacity
+read_within parts p there n b [] s t lists l each r =
+    let read = value_is n (s.cells p.base) r.0 in
+    let few = l.within p there in
+    omega (arith, read, few)
+read_within parts p there n b (c ∷ cs) s t lists l each r =
+    let next = cell_calls (record { part = p; had = n; child = b; act = counted }) in
+    let one = one_runs parts s lists l c.part each.0.part c.had c.child c.act each.0.room (all_cell_calls cs ++ next) t
+    (subst (λ (ds : List Done). Runs s ds t) (append_assoc (cell_calls c) (all_cell_calls cs) next) r) in
+    read_within parts p there n b cs one.0 t (stepped lists c) one.3 each.1 one.1

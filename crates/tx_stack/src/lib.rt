@@ -3,5 +3,7 @@
 
 pub mod laws;
 mod part;
+mod purpose;
 
 pub use part::StackPart;
+pub use purpose::Stacks;
