@@ -7,14 +7,17 @@ use Rattle.serial_terms.specs.Entries.{Entry, IsIn}
 use Rattle.serial_terms.specs.Facts.{with_at_same, with_at_other}
 use Rattle.serial_terms.specs.Histories.{Runs}
 use Rattle.serial_terms.specs.Serial.{State, rest}
+use Rattle.serial_terms.specs.Stores.{opening_of}
 use Rattle.tx_stack.specs.declared.part.StackPart.{StackPart}
-use Rattle.tx_stack.specs.Stacks.{StandForStacks, AreWithin, RunsOnLists}
+use Rattle.std.specs.Prelude.{Option, Some, None}
+use Rattle.tx_stack.specs.Stacks.{StandForStacks, IsItemOf, AreWithin, RunsOnLists, IsMoved}
 use Rattle.tx_stack.specs.Facts.{items_count, one_list}
 use Rattle.tx_stack.specs.Runs.{all_run}
 use Rattle.tx_stack.specs.Laws.{StacksOpenEmpty, CallsRunOnLists, RecordsRunOnLists, MovesMoveTheTop, move_calls}
 
 pub open_empty : StacksOpenEmpty
-open_empty parts apart = record { apart = apart; within = λ p at. omega arith; items = λ p at. refl; others = λ c none. refl }
+unfolding opening_of
+open_empty parts apart layout = record { apart = apart; within = λ p at. omega arith; items = λ p at. refl; others = λ c none. refl }
 
 pub calls_run : CallsRunOnLists
 calls_run parts s t lists l dones calls is r = all_run parts calls s t lists l is.each (subst (λ (ds : List Done). Runs s ds t) is.all r)
@@ -52,16 +55,30 @@ records_run parts s t lists l (e ∷ es) each r =
       stand = more.stand;
     }
 
+module _ (from to : StackPart) (b : Bool) (n m k v : ℕ) (before after : ℕ → List ℕ) (other : from.base ≢ to.base) where
+  abbrev put : List ℕ
+  put = v ∷ before to.base
+
+  abbrev mid : ℕ → List ℕ
+  mid = with_at before to.base put
+
+  kept : mid from.base ≡ before from.base
+  kept = with_at_other before to.base put from.base other
+
+  left_is : ((c : ℕ) → with_at mid from.base (rest (mid from.base)) c ≡ after c) → (below : List ℕ) → before from.base ≡ v ∷ below → IsMoved from.base to.base v before after
+  left_is end below top =
+      let left : after from.base ≡ below = sym (end from.base) ∙ (with_at_same mid from.base (rest (mid from.base)) from.base refl ∙ ap rest (kept ∙ top)) in
+      record {
+        top = top ∙ ap (λ (xs : List ℕ). v ∷ xs) (sym left);
+        there = sym (end to.base) ∙ (with_at_other mid from.base (rest (mid from.base)) to.base (λ e. other (sym e)) ∙ with_at_same before to.base put to.base refl);
+        others = λ c apart_from apart_to. sym (end c) ∙ (with_at_other mid from.base (rest (mid from.base)) c apart_from ∙ with_at_other before to.base put c apart_to);
+      }
+
+  by_item : (item : Option ℕ) → IsItemOf from.capacity k item → RunsOnLists before (move_calls from to b n m k v item) after → IsMoved from.base to.base v before after
+  by_item (Some w) is r = left_is (λ c. ap (λ (f : ℕ → List ℕ). f c) r.1.1.1) r.0.list.0 r.0.list.1
+  by_item None is r =
+      let long : length (v ∷ r.0.list.0) ≡ k = ap length (sym (kept ∙ r.0.list.1)) ∙ r.1.1.0.had in
+      absurd (omega (arith, long, is))
+
 pub moves : MovesMoveTheTop
-moves from to b n m v w before after other r =
-    let put : List ℕ = v ∷ before to.base in
-    let mid : ℕ → List ℕ = with_at before to.base put in
-    let end : (c : ℕ) → with_at mid from.base (rest (mid from.base)) c ≡ after c = λ c. ap (λ (f : ℕ → List ℕ). f c) r.1.1.1 in
-    let kept : mid from.base ≡ before from.base = with_at_other before to.base put from.base other in
-    let top = r.0.list in
-    let left : after from.base ≡ top.0 = sym (end from.base) ∙ (with_at_same mid from.base (rest (mid from.base)) from.base refl ∙ ap rest (kept ∙ top.1)) in
-    record {
-      top = top.1 ∙ ap (λ (xs : List ℕ). v ∷ xs) (sym left);
-      there = sym (end to.base) ∙ (with_at_other mid from.base (rest (mid from.base)) to.base (λ e. other (sym e)) ∙ with_at_same before to.base put to.base refl);
-      others = λ c apart_from apart_to. sym (end c) ∙ (with_at_other mid from.base (rest (mid from.base)) c apart_from ∙ with_at_other before to.base put c apart_to);
-    }
+moves from to b n m k v item before after other is r = by_item from to b n m k v before after other item is r

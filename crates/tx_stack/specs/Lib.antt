@@ -2,3 +2,5 @@ pub mod Stacks
 pub mod Facts
 pub mod Runs
 pub mod Laws
+pub mod Calls
+pub mod CallFacts

@@ -1,5 +1,5 @@
 -- The stacks that plain cells stand for, and the calls on stacks that a record's calls are read as.
-use Rattle.std.specs.Prelude.{◌≡◌, ◌≢◌, ◌⊎◌, ℕ, zero, suc, ◌+◌, ◌-◌, ◌<◌, ◌≤◌, Bool, List, [], ◌∷◌, ◌++◌, length}
+use Rattle.std.specs.Prelude.{◌≡◌, ◌≢◌, ◌⊎◌, ℕ, zero, suc, ◌+◌, ◌-◌, ◌<◌, ◌≤◌, Bool, true, false, nat_lt, List, [], ◌∷◌, ◌++◌, length, Option, Some, None}
 use Rattle.serial_terms.specs.declared.call.Call.{Call}
 use Rattle.serial_terms.specs.declared.call.Call.TheVariants.{CellGet, CellPut}
 use Rattle.serial_terms.specs.declared.call.Reply.{Reply}
@@ -99,6 +99,33 @@ module _ (parts : List StackPart) where
   -- a record is allowed that is read as calls on stacks
   abbrev pub IsAllowed : List Done → Type 0
   IsAllowed dones = (calls : List StackCall) × IsReadAs dones calls
+
+-- ---- what an answer says was done with a stack of n items, of at most so many
+
+abbrev pub pushes : ℕ → Bool → Act
+pushes v true = pushed v
+pushes v false = counted
+
+abbrev pub shows : Option ℕ → Act
+shows (Some v) = shown v
+shows None = counted
+
+abbrev pub pops : Option ℕ → Act
+pops (Some v) = popped v
+pops None = counted
+
+-- the answer is the length
+abbrev pub IsLength : ℕ → ℕ → ℕ → Type 0
+IsLength capacity n answer = (answer ≡ n) × (n ≤ capacity)
+
+-- an item was put on exactly where there was room
+abbrev pub IsPutOn : ℕ → ℕ → Bool → Type 0
+IsPutOn capacity n added = added ≡ nat_lt n capacity
+
+-- there is an answer exactly where there is an item
+abbrev pub IsItemOf : ℕ → ℕ → Option ℕ → Type 0
+IsItemOf capacity n (Some v) = (0 < n) × (n ≤ capacity)
+IsItemOf capacity n None = n ≡ 0
 
 -- ---- stacks as lists, the top first
 

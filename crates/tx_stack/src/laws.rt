@@ -1,7 +1,7 @@
 //! Laws of stacks. Each function does nothing; what it ensures is the law.
 ghost use Rattle.tx_stack.specs.Laws.{StacksOpenEmpty, RecordsAreReadInOneWay, CallsRunOnLists, RecordsRunOnLists, MovesMoveTheTop};
 
-/// Cells that are 0 stand for empty stacks, where no two parts have a cell in common.
+/// A store opens with empty stacks, where no two parts have a cell in common.
 pub fn stacks_open_empty_law()
     ensures { StacksOpenEmpty }
 {}

@@ -4,7 +4,7 @@ ghost use Rattle.tx_stack.specs.Stacks.{IsLawful, IsAllowed};
 
 use crate::part::StackPart;
 use key_directory::BelowCapacity;
-use store_meaning::Purpose;
+use tx_store::Purpose;
 
 /// Stacks on plain cells. Its states are those whose plain cells stand for stacks, and its records those that are made of calls on
 /// them: no other call is allowed.
