@@ -4,3 +4,4 @@ pub mod Runs
 pub mod Laws
 pub mod Calls
 pub mod CallFacts
+pub mod Closed

@@ -3,9 +3,12 @@
 #![tactic(auto)]
 
 mod calls;
+mod closed;
 pub mod laws;
+mod one;
 mod part;
 mod purpose;
 
+pub use closed::{closed_stacks_law, seen_stacks_law};
 pub use part::StackPart;
 pub use purpose::Stacks;
