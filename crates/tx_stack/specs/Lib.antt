@@ -5,3 +5,4 @@ pub mod Laws
 pub mod Calls
 pub mod CallFacts
 pub mod Closed
+pub mod Moves

@@ -5,10 +5,12 @@
 mod calls;
 mod closed;
 pub mod laws;
+mod moving;
 mod one;
 mod part;
 mod purpose;
 
 pub use closed::{closed_stacks_law, seen_stacks_law};
+pub use moving::{Moved, move_top};
 pub use part::StackPart;
 pub use purpose::Stacks;
