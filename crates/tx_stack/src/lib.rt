@@ -9,6 +9,8 @@ mod moving;
 mod one;
 mod part;
 mod purpose;
+#[cfg(test)]
+mod tests;
 
 pub use closed::{closed_stacks_law, seen_stacks_law};
 pub use moving::{Moved, move_top};

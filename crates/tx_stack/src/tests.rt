@@ -1,0 +1,153 @@
+//! Stacks on small stores.
+ghost use Rattle.std.specs.Prelude.{◌≡◌, ◌<◌, ◌≤◌, IfOk};
+ghost use Rattle.cell_table.specs.Steps.{IsIdle};
+ghost use Rattle.serial_terms.specs.Entries.{OrderedBy};
+ghost use Rattle.tx_store.specs.Stores.{IsPassOfStore};
+ghost use Rattle.tx_stack.specs.Calls.{IsStackOf, IsAllowedSoFar, MayCallStack};
+ghost use Rattle.tx_stack.specs.Stacks.{AreApart};
+
+use crate::laws::stacks_open_empty_law;
+use crate::{StackPart, Stacks};
+use serial_terms::{Layout, PlainList, StoreState};
+use std::alloc::{AllocError, Global};
+use std::test::Fail;
+use tx_core::{Stop, TxState};
+use tx_store::{CommitEnd, Receipt, Store, StorePass, StoreTx};
+
+// A store of stacks in so many plain cells, and the pass of all its callers.
+fn opened(
+    alloc: Global,
+    parts: Vec<StackPart>,
+    cells: u32,
+    callers: u32,
+) -> Result<(Store<Stacks>, StorePass<Stacks>), AllocError>
+    requires apart { OrderedBy AreApart parts.items }
+    requires cells { 0 < cells }
+    requires callers { (0 < callers) × (callers ≤ 4096) }
+    ensures pass { IfOk result (λ t. IsPassOfStore t.0 t.1 × IsIdle t.1.pass.view) }
+    ensures parts { IfOk result (λ t. t.0.table.meaning.purpose.parts.items ≡ parts.items) }
+    ensures cells { IfOk result (λ t. t.0.table.meaning.plan.cells ≡ cells) }
+{
+    stacks_open_empty_law();
+    let layout = Layout {
+        maps: PlainList::from_vec(Vec::new(alloc)),
+        queues: PlainList::from_vec(Vec::new(alloc)),
+        pools: PlainList::from_vec(Vec::new(alloc)),
+        logs: PlainList::from_vec(Vec::new(alloc)),
+        cells,
+    };
+    match Store::open(alloc, Stacks { parts }, &layout, callers) {
+        Ok(opened) => Ok(opened),
+        Err(_) => Err(AllocError),
+    }
+}
+
+const FIRST: StackPart = StackPart {
+    base: 0,
+    capacity: 2,
+};
+
+// An attempt that has made no call.
+fn begun<'a>(
+    alloc: Global,
+    store: &'a Store<Stacks>,
+    pass: StorePass<Stacks>,
+) -> Result<StoreTx<'a, Stacks>, AllocError>
+    requires { IsPassOfStore store.now pass × IsIdle pass.pass.view }
+    ensures ready { IfOk result MayCallStack }
+    ensures store { IfOk result (λ t. t.store ≡ store.now) }
+{
+    if pass.draws_left() == 0 {
+        return Err(AllocError);
+    }
+    match StoreTx::begin(alloc, store, pass) {
+        Ok(tx) => Ok(tx),
+        Err(_) => Err(AllocError),
+    }
+}
+
+// The pass that a commit leaves, and how it ended.
+fn committed(
+    tx: StoreTx<'_, Stacks>,
+) -> Result<(StorePass<Stacks>, Result<Receipt, CommitEnd>), AllocError>
+    requires { IsAllowedSoFar tx }
+    ensures { IfOk result (λ t. IsPassOfStore tx.entry.store t.0 × IsIdle t.0.pass.view) }
+{
+    if tx.state() != TxState::Running {
+        tx.abort();
+        return Err(AllocError);
+    }
+    match tx.commit() {
+        Ok((pass, receipt)) => Ok((pass, Ok(receipt))),
+        Err((pass, end)) => Ok((pass, Err(end))),
+    }
+}
+
+// What the cells of the store hold at its end.
+fn closed(
+    alloc: Global,
+    store: Store<Stacks>,
+    pass: StorePass<Stacks>,
+) -> Result<StoreState, AllocError>
+    requires { IsPassOfStore store pass × IsIdle pass.pass.view }
+{
+    if !pass.is_sole(&store) {
+        return Err(AllocError);
+    }
+    match store.close(alloc, pass) {
+        Ok((_, state)) => Ok(state),
+        Err(_) => Err(AllocError),
+    }
+}
+
+// What the calls of a stack of two items answer: two pushes, one too many, the top, a pop, the length.
+fn answers(
+    tx: &mut StoreTx<'_, Stacks>,
+    stack: &StackPart,
+) -> Result<([bool; 3], [Option<u64>; 2], u64), Stop>
+    requires ready { MayCallStack tx.old }
+    requires stack { IsStackOf tx.old.store stack.now }
+    ensures { IfOk result (λ _. MayCallStack tx.new × (tx.new.store ≡ tx.old.store)) }
+{
+    let five = stack.push(tx, 5)?;
+    let six = stack.push(tx, 6)?;
+    let seven = stack.push(tx, 7)?;
+    let top = stack.top(tx)?;
+    let popped = stack.pop(tx)?;
+    let length = stack.len(tx)?;
+    Ok(([five, six, seven], [top, popped], length))
+}
+
+// What such a stack answers, and what its cells are at the end.
+fn one_stack(
+    alloc: Global,
+    store: Store<Stacks>,
+    pass: StorePass<Stacks>,
+    stack: &StackPart,
+) -> Result<(([bool; 3], [Option<u64>; 2], u64), u64, StoreState), AllocError>
+    requires pass { IsPassOfStore store pass × IsIdle pass.pass.view }
+    requires stack { IsStackOf store stack.now }
+{
+    let mut tx = begun(alloc, &store, pass)?;
+    let Ok(told) = answers(&mut tx, stack) else {
+        tx.abort();
+        return Err(AllocError);
+    };
+    let (pass, end) = committed(tx)?;
+    let Ok(receipt) = end else {
+        return Err(AllocError);
+    };
+    let state = closed(alloc, store, pass)?;
+    Ok((told, receipt.place, state))
+}
+
+#[test]
+fn a_stack_gives_back_what_was_put_last(rt: HostRuntime) -> Result<(), Fail> {
+    let alloc = rt.alloc();
+    let (store, pass) = opened(alloc, [FIRST].to_vec(alloc)?, 3, 1)?;
+    let (told, place, state) = one_stack(alloc, store, pass, &FIRST)?;
+    assert_eq!(rt; told, ([true, true, false], [Some(6), Some(6)], 1));
+    assert_eq!(rt; place, 1);
+    assert_eq!(rt; state.cells.as_slice(), [1, 5, 6].as_slice());
+    Ok(())
+}
