@@ -1,0 +1,3 @@
+pub mod RunStores
+pub mod Records
+pub mod InChild
