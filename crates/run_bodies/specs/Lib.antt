@@ -1,3 +1,4 @@
 pub mod RunStores
 pub mod Records
 pub mod InChild
+pub mod Matching
