@@ -1,6 +1,6 @@
-use Rattle.std.proofs.Common.{◌≡◌, ℕ, List, [], ◌∷◌, ◌++◌, append_assoc, refl, sym, ap, ◌∙◌}
+use Rattle.std.proofs.Common.{ℕ, List, [], ◌∷◌, ◌++◌, append_assoc, refl, sym, ap, ◌∙◌}
 use Rattle.std.proofs.lemmas.List.{append-nil}
-use Rattle.std.specs.Prelude.{Result, Ok, Err, None, true}
+use Rattle.std.specs.Prelude.{Result, Ok, Err, true}
 use Rattle.serial_terms.specs.declared.call.Done.{Done}
 use Rattle.serial_terms.specs.Renaming.{NamedDone, by_key}
 use Rattle.store_layout.specs.Shapes.{Shape}
@@ -49,7 +49,7 @@ module _ {M : Type 0} where
     keyed = refl;
   }
 
-  does_then : (a b d : TxView M) (xs ys : List Done) → DoesInChild a b xs → DoesInChild b d ys → DoesInChild a d (xs ++ ys)
+  pub does_then : (a b d : TxView M) (xs ys : List Done) → DoesInChild a b xs → DoesInChild b d ys → DoesInChild a d (xs ++ ys)
   does_then a b d xs ys x y = record {
     goes = goes_then a b d x.goes y.goes;
     state = y.state;

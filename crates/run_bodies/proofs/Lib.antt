@@ -6,3 +6,6 @@ mod Walking
 mod Appending
 mod Allowing
 mod Finding
+mod Adding
+mod Taken
+mod TakingEnds

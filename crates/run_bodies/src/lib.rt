@@ -4,6 +4,7 @@
 //! takes a datagram from the queue, and appends its findings to the log. [`Filling`] gives the next tasks to the pool.
 #![tactic(auto)]
 
+mod child;
 mod filling;
 mod gate;
 mod matching;
