@@ -9,3 +9,5 @@ mod Finding
 mod Adding
 mod Taken
 mod TakingEnds
+mod Filled
+mod FillingEnds
