@@ -1,14 +1,11 @@
 -- The history of a finished run has found all of the capture.
 use Rattle.std.proofs.Common.{◌≡◌, ℕ, ◌+◌, ◌*◌, ◌≤◌, List, [], ◌∷◌, length, get_or, refl, sym, ap, ◌∙◌, subst, arith}
-use Rattle.std.specs.Prelude.{IsTrue, IsPermutation}
+use Rattle.std.specs.Prelude.{IsPermutation}
 use Rattle.capture_terms.specs.Capture.{contents_of}
 use Rattle.inspection_terms.specs.Findings.{findings_of_capture}
-use Rattle.serial_terms.specs.declared.call.Done.{Done}
 use Rattle.serial_terms.specs.declared.store.Layout.{Layout}
 use Rattle.serial_terms.specs.declared.store.StoreState.{StoreState}
-use Rattle.serial_terms.specs.Entries.{Entry, Each}
 use Rattle.serial_terms.specs.Histories.{IsLegalRun}
-use Rattle.serial_terms.specs.Laws.{OrderIsByPlace}
 use Rattle.serial_terms.specs.RunLayout.{layout_by}
 use Rattle.serial_terms.specs.Stores.{opening_of, state_of}
 use Rattle.run_stages.specs.Ends.{IsFinished, fills_made}
@@ -16,17 +13,9 @@ use Rattle.run_stages.specs.FromCapture.{work_of_plan, TasksHaveFacts, PlansAreW
 use Rattle.run_stages.specs.Laws.{RunsEndLawful, FillsAreCounted}
 use Rattle.run_stages.specs.Opening.{layout_of, IsRunOfWork}
 use Rattle.run_stages.specs.Stages.{IsLawful}
-use Rattle.run_stages.specs.Told.{NothingIsLeft}
 use Rattle.run_purpose.specs.Lawful.{layout_for}
 use Rattle.run_purpose.specs.Finished.{FinishedRunsFindAll}
-
-both : {A : Type 0} (P Q : A → Type 0) (xs : List A) → Each P xs → Each Q xs → Each (λ x. P x × Q x) xs
-both P Q [] a b = tt
-both P Q (x ∷ xs) a b = ((a.0, b.0), both P Q xs a.1 b.1)
-
-mapped : {A : Type 0} (P Q : A → Type 0) → ((x : A) → P x → Q x) → (xs : List A) → Each P xs → Each Q xs
-mapped P Q f [] a = tt
-mapped P Q f (x ∷ xs) a = (f x a.0, mapped P Q f xs a.1)
+use Rattle.run_purpose.proofs.LastReplies.{ends_empty, ends_pooled}
 
 none : {A : Type 0} (xs : List A) → length xs ≡ 0 → xs ≡ []
 none [] e = refl
@@ -45,8 +34,8 @@ module _ (layout : Layout) (contents : StoreState) where
   unfolding state_of
   pool_is = refl
 
-pub finished : TasksHaveFacts → PlansAreWork → OrderIsByPlace → NothingIsLeft → FillsAreCounted → RunsEndLawful → FinishedFindsCapture → FindingsFitLog → KeysAreIncomplete → FinishedRunsFindAll
-finished facts works orders left fills lawful finds fits keys rules bytes capture window plan fine is findings history contents run =
+pub finished : TasksHaveFacts → PlansAreWork → FillsAreCounted → RunsEndLawful → FinishedFindsCapture → FindingsFitLog → KeysAreIncomplete → FinishedRunsFindAll
+finished facts works fills lawful finds fits keys rules bytes capture window plan fine is findings history contents run =
     let w = work_of_plan rules bytes plan in
     let sound = works rules bytes capture window plan fine is in
     let f = facts rules bytes plan.tasks.items plan.groups.items in
@@ -55,17 +44,15 @@ finished facts works orders left fills lawful finds fits keys rules bytes captur
     let same : layout_of w findings ≡ layout = ap (λ (n : ℕ). layout_by n w.groups findings) f.0 ∙ ap (λ (g : ℕ). layout_by (length plan.tasks.items) g findings) f.1 in
     let legal : IsLegalRun (opening_of (layout_of w findings)) history end = subst (λ (l : Layout). IsLegalRun (opening_of l) history end) (sym same) run.legal.run in
     let of_work : IsRunOfWork w findings history end = record { run = legal; allowed = run.allowed } in
-    let places = mapped _ (λ (x : Entry Done). IsTrue x.writer → (x.place ≤ run.item.place) × (x.place ≤ run.task.place))
-    (λ x p wrote. (p.0 wrote, p.1 wrote)) history (both _ _ history run.none_queued.last run.none_pooled.last) in
-    let empty = left w findings history end (orders history run.legal.order) of_work run.item run.task run.none_queued.there run.none_pooled.there run.none_queued.reads run.none_pooled.reads
-    run.none_queued.alone run.none_pooled.alone places in
+    let queue = ends_empty history end run.legal run.item run.none_queued in
+    let pool = ends_pooled history end run.legal run.task run.none_pooled in
     let given : length w.tasks ≤ 4096 * (fills_made history + 1) = (let n = f.0 in let g = run.given in omega arith) in
-    let done : IsFinished w end = record { pool = empty.1; queue = empty.0; given = (fills w sound findings history end of_work).1 given } in
+    let done : IsFinished w end = record { pool = pool; queue = queue; given = (fills w sound findings history end of_work).1 given } in
     let stands : IsLawful w end = lawful w sound findings history end of_work in
     record {
       found = subst (IsPermutation (findings_of_capture rules bytes window (contents_of capture))) (log_is layout contents) (finds rules bytes capture window plan is end stands done);
       few = fits rules bytes capture window plan fine is findings history end of_work done;
-      queue = sym (queue_is layout contents) ∙ empty.0;
-      pool = none (get_or contents.pools 0 []) (sym (pool_is layout contents) ∙ empty.1);
+      queue = sym (queue_is layout contents) ∙ queue;
+      pool = none (get_or contents.pools 0 []) (sym (pool_is layout contents) ∙ pool);
       keys = λ ordered. keys rules bytes capture window plan fine is layout contents ordered stands done;
     }

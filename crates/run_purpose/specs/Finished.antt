@@ -1,5 +1,5 @@
 -- What the history of a finished run says of the capture.
-use Rattle.std.specs.Prelude.{◌≡◌, ℕ, ◌+◌, ◌*◌, ◌<◌, ◌≤◌, IsTrue, IsFalse, List, [], ◌∷◌, length, get_or, IsPermutation}
+use Rattle.std.specs.Prelude.{◌≡◌, ℕ, ◌+◌, ◌*◌, ◌<◌, ◌≤◌, IsTrue, ◌⊎◌, List, [], ◌∷◌, length, get_or, IsPermutation}
 use Rattle.capture_terms.specs.Capture.{contents_of}
 use Rattle.capture_terms.specs.Datagram.{incomplete}
 use Rattle.capture_terms.specs.Plan.{IsClassifiable, IsPlan}
@@ -18,12 +18,15 @@ use Rattle.run_stages.specs.Ends.{fills_made}
 use Rattle.run_stages.specs.FromCapture.{work_of_plan}
 use Rattle.run_purpose.specs.Lawful.{layout_for}
 
--- the record is one of the history, no writer's, of this call alone, and no writer's place is above it
+-- it found that the queue gives nothing, or the pool, and did nothing else
+abbrev pub FoundNothing : List Done → Type 0
+FoundNothing dones = (dones ≡ no_item ∷ []) ⊎ (dones ≡ no_task ∷ [])
+
+-- the record is one of the history, of this call alone, and no writer's place is above it but of those that found nothing, too
 pub record IsLastReply (history : List (Entry Done)) (reply : Done) (e : Entry Done) : Type 0 where
   pub there : IsIn e history
-  pub reads : IsFalse e.writer
   pub alone : e.dones ≡ reply ∷ []
-  pub last : Each (λ x. IsTrue x.writer → x.place ≤ e.place) history
+  pub last : Each (λ x. IsTrue x.writer → (x.place ≤ e.place) ⊎ FoundNothing x.dones) history
 
 -- The history of a run that left nothing to do: it is a legal one of allowed records, the queue and the pool were found empty
 -- at its end, and after its fills every task was given

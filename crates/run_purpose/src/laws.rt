@@ -9,10 +9,9 @@ use run_stages::from_capture::{
     plans_are_work_law, tasks_have_facts_law,
 };
 use run_stages::laws::{
-    added_word_fits_law, allowed_keeps_lawful_law, fills_are_counted_law, nothing_is_left_law,
-    opening_is_lawful_law, queued_is_datagram_law, runs_end_lawful_law, taken_is_task_law,
+    added_word_fits_law, allowed_keeps_lawful_law, fills_are_counted_law, opening_is_lawful_law,
+    queued_is_datagram_law, runs_end_lawful_law, taken_is_task_law,
 };
-use serial_terms::laws::order_is_by_place_law;
 
 /// The work of a capture's plan is sound, the plan is small, and the store of its run opens in a lawful state.
 pub fn run_opens_lawful_law()
@@ -40,8 +39,6 @@ pub fn finished_runs_find_all_law()
 {
     tasks_have_facts_law();
     plans_are_work_law();
-    order_is_by_place_law();
-    nothing_is_left_law();
     fills_are_counted_law();
     runs_end_lawful_law();
     finished_finds_capture_law();
