@@ -1,0 +1,5 @@
+pub mod Opened
+pub mod Noted
+pub mod Turns
+pub mod Works
+pub mod Fills
