@@ -47,6 +47,24 @@ const FIRST: StackPart = StackPart {
     capacity: 2,
 };
 
+// The passes of two callers.
+fn halves(
+    alloc: Global,
+    store: &Store<Stacks>,
+    pass: StorePass<Stacks>,
+) -> Result<(StorePass<Stacks>, StorePass<Stacks>), AllocError>
+    requires { IsPassOfStore store.now pass × IsIdle pass.pass.view }
+    ensures first { IfOk result (λ t. IsPassOfStore store.now t.0 × IsIdle t.0.pass.view) }
+    ensures second { IfOk result (λ t. IsPassOfStore store.now t.1 × IsIdle t.1.pass.view) }
+{
+    let mut pass = pass;
+    if pass.callers_held() < 2 {
+        return Err(AllocError);
+    }
+    let other = pass.split(alloc, store, 1)?;
+    Ok((pass, other))
+}
+
 // An attempt that has made no call.
 fn begun<'a>(
     alloc: Global,
@@ -149,5 +167,117 @@ fn a_stack_gives_back_what_was_put_last(rt: HostRuntime) -> Result<(), Fail> {
     assert_eq!(rt; told, ([true, true, false], [Some(6), Some(6)], 1));
     assert_eq!(rt; place, 1);
     assert_eq!(rt; state.cells.as_slice(), [1, 5, 6].as_slice());
+    Ok(())
+}
+
+// The attempt after a push that found room.
+fn with_pushed<'a>(
+    tx: StoreTx<'a, Stacks>,
+    stack: &StackPart,
+    value: u64,
+) -> Result<StoreTx<'a, Stacks>, AllocError>
+    requires ready { MayCallStack tx }
+    requires stack { IsStackOf tx.store stack.now }
+    ensures ready { IfOk result MayCallStack }
+    ensures store { IfOk result (λ t. t.store ≡ tx.entry.store) }
+{
+    let mut tx = tx;
+    let Ok(true) = stack.push(&mut tx, value) else {
+        tx.abort();
+        return Err(AllocError);
+    };
+    Ok(tx)
+}
+
+// The attempt after it found a stack empty.
+fn with_empty<'a>(
+    tx: StoreTx<'a, Stacks>,
+    stack: &StackPart,
+) -> Result<StoreTx<'a, Stacks>, AllocError>
+    requires ready { MayCallStack tx }
+    requires stack { IsStackOf tx.store stack.now }
+    ensures ready { IfOk result MayCallStack }
+    ensures store { IfOk result (λ t. t.store ≡ tx.entry.store) }
+{
+    let mut tx = tx;
+    let Ok(0) = stack.len(&mut tx) else {
+        tx.abort();
+        return Err(AllocError);
+    };
+    Ok(tx)
+}
+
+// The place at which an item was pushed in a transaction of its own.
+fn pushed_alone(
+    alloc: Global,
+    store: &Store<Stacks>,
+    pass: StorePass<Stacks>,
+    stack: &StackPart,
+    value: u64,
+) -> Result<u64, AllocError>
+    requires pass { IsPassOfStore store.now pass × IsIdle pass.pass.view }
+    requires stack { IsStackOf store.now stack.now }
+{
+    if pass.draws_left() == 0 {
+        return Err(AllocError);
+    }
+    match stack.push_one(alloc, store, pass, value, 1) {
+        Ok((pass, true)) => Ok(pass.seen()),
+        Ok(_) | Err(_) => Err(AllocError),
+    }
+}
+
+// What was popped in a transaction of its own.
+fn popped_alone(
+    alloc: Global,
+    store: &Store<Stacks>,
+    pass: StorePass<Stacks>,
+    stack: &StackPart,
+) -> Result<Option<u64>, AllocError>
+    requires pass { IsPassOfStore store.now pass × IsIdle pass.pass.view }
+    requires stack { IsStackOf store.now stack.now }
+{
+    if pass.draws_left() == 0 {
+        return Err(AllocError);
+    }
+    match stack.pop_one(alloc, store, pass, 1) {
+        Ok((_, item)) => Ok(item),
+        Err(_) => Err(AllocError),
+    }
+}
+
+// How an attempt ends whose push comes after another caller's, and what it finds then.
+fn behind_another(
+    alloc: Global,
+    store: &Store<Stacks>,
+    first: StorePass<Stacks>,
+    second: StorePass<Stacks>,
+    stack: &StackPart,
+) -> Result<(u64, Result<Receipt, CommitEnd>, Option<u64>), AllocError>
+    requires first { IsPassOfStore store.now first × IsIdle first.pass.view }
+    requires second { IsPassOfStore store.now second × IsIdle second.pass.view }
+    requires stack { IsStackOf store.now stack.now }
+{
+    let tx = begun(alloc, store, first)?;
+    let tx = with_empty(tx, stack)?;
+    let Ok(place) = pushed_alone(alloc, store, second, stack, 9) else {
+        tx.abort();
+        return Err(AllocError);
+    };
+    let tx = with_pushed(tx, stack, 4)?;
+    let (first, end) = committed(tx)?;
+    let item = popped_alone(alloc, store, first, stack)?;
+    Ok((place, end, item))
+}
+
+#[test]
+fn a_push_on_a_stack_that_another_pushed_on_is_refused(rt: HostRuntime) -> Result<(), Fail> {
+    let alloc = rt.alloc();
+    let (store, pass) = opened(alloc, [FIRST].to_vec(alloc)?, 3, 2)?;
+    let (first, second) = halves(alloc, &store, pass)?;
+    let (place, end, item) = behind_another(alloc, &store, first, second, &FIRST)?;
+    assert_eq!(rt; place, 1);
+    assert_eq!(rt; end, Err(CommitEnd::Newer { cell: 0, found: 1 }));
+    assert_eq!(rt; item, Some(9));
     Ok(())
 }
