@@ -47,6 +47,11 @@ const FIRST: StackPart = StackPart {
     capacity: 2,
 };
 
+const SECOND: StackPart = StackPart {
+    base: 3,
+    capacity: 2,
+};
+
 // The passes of two callers.
 fn halves(
     alloc: Global,
@@ -279,5 +284,33 @@ fn a_push_on_a_stack_that_another_pushed_on_is_refused(rt: HostRuntime) -> Resul
     assert_eq!(rt; place, 1);
     assert_eq!(rt; end, Err(CommitEnd::Newer { cell: 0, found: 1 }));
     assert_eq!(rt; item, Some(9));
+    Ok(())
+}
+
+// The cells at the end, where two items are put on one stack and one between them on another.
+fn side_by_side(
+    alloc: Global,
+    store: Store<Stacks>,
+    pass: StorePass<Stacks>,
+    first: &StackPart,
+    second: &StackPart,
+) -> Result<StoreState, AllocError>
+    requires pass { IsPassOfStore store pass × IsIdle pass.pass.view }
+    requires stacks { IsStackOf store first.now × IsStackOf store second.now }
+{
+    let tx = begun(alloc, &store, pass)?;
+    let tx = with_pushed(tx, first, 5)?;
+    let tx = with_pushed(tx, second, 6)?;
+    let tx = with_pushed(tx, first, 7)?;
+    let (pass, _) = committed(tx)?;
+    closed(alloc, store, pass)
+}
+
+#[test]
+fn stacks_side_by_side_keep_their_items(rt: HostRuntime) -> Result<(), Fail> {
+    let alloc = rt.alloc();
+    let (store, pass) = opened(alloc, [FIRST, SECOND].to_vec(alloc)?, 6, 1)?;
+    let state = side_by_side(alloc, store, pass, &FIRST, &SECOND)?;
+    assert_eq!(rt; state.cells.as_slice(), [2, 5, 7, 1, 6, 0].as_slice());
     Ok(())
 }
