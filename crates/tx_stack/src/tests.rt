@@ -1,5 +1,5 @@
 //! Stacks on small stores.
-ghost use Rattle.std.specs.Prelude.{◌≡◌, ◌<◌, ◌≤◌, IfOk};
+ghost use Rattle.std.specs.Prelude.{◌≡◌, ◌≢◌, ◌<◌, ◌≤◌, IfOk};
 ghost use Rattle.cell_table.specs.Steps.{IsIdle};
 ghost use Rattle.serial_terms.specs.Entries.{OrderedBy};
 ghost use Rattle.tx_store.specs.Stores.{IsPassOfStore};
@@ -7,7 +7,7 @@ ghost use Rattle.tx_stack.specs.Calls.{IsStackOf, IsAllowedSoFar, MayCallStack};
 ghost use Rattle.tx_stack.specs.Stacks.{AreApart};
 
 use crate::laws::stacks_open_empty_law;
-use crate::{StackPart, Stacks};
+use crate::{Moved, StackPart, Stacks, move_top};
 use serial_terms::{Layout, PlainList, StoreState};
 use std::alloc::{AllocError, Global};
 use std::test::Fail;
@@ -212,6 +212,32 @@ fn with_empty<'a>(
     Ok(tx)
 }
 
+// The attempt after a move, and what came of it.
+fn with_moved<'a>(
+    tx: StoreTx<'a, Stacks>,
+    from: &StackPart,
+    to: &StackPart,
+    tries: u32,
+) -> Result<(StoreTx<'a, Stacks>, Moved), AllocError>
+    requires ready { MayCallStack tx }
+    requires stacks { IsStackOf tx.store from.now × IsStackOf tx.store to.now }
+    requires two { from.now.base ≢ to.now.base }
+    requires tries { 0 < tries }
+    ensures ready { IfOk result (λ t. MayCallStack t.0) }
+    ensures store { IfOk result (λ t. t.0.store ≡ tx.entry.store) }
+{
+    let mut tx = tx;
+    if tx.state() != TxState::Running {
+        tx.abort();
+        return Err(AllocError);
+    }
+    let Ok(moved) = move_top(&mut tx, from, to, tries) else {
+        tx.abort();
+        return Err(AllocError);
+    };
+    Ok((tx, moved))
+}
+
 // The place at which an item was pushed in a transaction of its own.
 fn pushed_alone(
     alloc: Global,
@@ -312,5 +338,72 @@ fn stacks_side_by_side_keep_their_items(rt: HostRuntime) -> Result<(), Fail> {
     let (store, pass) = opened(alloc, [FIRST, SECOND].to_vec(alloc)?, 6, 1)?;
     let state = side_by_side(alloc, store, pass, &FIRST, &SECOND)?;
     assert_eq!(rt; state.cells.as_slice(), [2, 5, 7, 1, 6, 0].as_slice());
+    Ok(())
+}
+
+// What two moves answer after a push on the first stack, and what the cells are at the end.
+fn two_moves(
+    alloc: Global,
+    store: Store<Stacks>,
+    pass: StorePass<Stacks>,
+    from: &StackPart,
+    to: &StackPart,
+) -> Result<(Moved, Moved, StoreState), AllocError>
+    requires pass { IsPassOfStore store pass × IsIdle pass.pass.view }
+    requires stacks { IsStackOf store from.now × IsStackOf store to.now }
+    requires two { from.now.base ≢ to.now.base }
+{
+    let tx = begun(alloc, &store, pass)?;
+    let tx = with_pushed(tx, from, 1)?;
+    let (tx, once) = with_moved(tx, from, to, 1)?;
+    let (tx, again) = with_moved(tx, from, to, 1)?;
+    let (pass, _) = committed(tx)?;
+    let state = closed(alloc, store, pass)?;
+    Ok((once, again, state))
+}
+
+#[test]
+fn the_top_goes_to_the_stack_beside(rt: HostRuntime) -> Result<(), Fail> {
+    let alloc = rt.alloc();
+    let (store, pass) = opened(alloc, [FIRST, SECOND].to_vec(alloc)?, 6, 1)?;
+    let (once, again, state) = two_moves(alloc, store, pass, &FIRST, &SECOND)?;
+    assert_eq!(rt; once, Moved::Yes(1));
+    assert_eq!(rt; again, Moved::Empty);
+    assert_eq!(rt; state.cells.as_slice(), [0, 1, 0, 1, 1, 0].as_slice());
+    Ok(())
+}
+
+// What a move answers whose first child meets a push of another caller, and the attempt's version after it.
+fn move_behind_another(
+    alloc: Global,
+    store: &Store<Stacks>,
+    first: StorePass<Stacks>,
+    second: StorePass<Stacks>,
+    from: &StackPart,
+    to: &StackPart,
+) -> Result<(Moved, u64), AllocError>
+    requires first { IsPassOfStore store.now first × IsIdle first.pass.view }
+    requires second { IsPassOfStore store.now second × IsIdle second.pass.view }
+    requires stacks { IsStackOf store.now from.now × IsStackOf store.now to.now }
+    requires two { from.now.base ≢ to.now.base }
+{
+    let tx = begun(alloc, store, first)?;
+    let Ok(_) = pushed_alone(alloc, store, second, from, 9) else {
+        tx.abort();
+        return Err(AllocError);
+    };
+    let (tx, moved) = with_moved(tx, from, to, 2)?;
+    let version = tx.version();
+    tx.abort();
+    Ok((moved, version))
+}
+
+#[test]
+fn a_dropped_move_is_tried_again_at_a_later_version(rt: HostRuntime) -> Result<(), Fail> {
+    let alloc = rt.alloc();
+    let (store, pass) = opened(alloc, [FIRST, SECOND].to_vec(alloc)?, 6, 2)?;
+    let (first, second) = halves(alloc, &store, pass)?;
+    let told = move_behind_another(alloc, &store, first, second, &FIRST, &SECOND)?;
+    assert_eq!(rt; told, (Moved::Yes(9), 1));
     Ok(())
 }
