@@ -1,7 +1,7 @@
 -- What the calls of a move leave together.
 use Rattle.std.proofs.Common.{◌≡◌, ℕ, ◌<◌, ◌≤◌, List, [], ◌∷◌, ◌++◌, append_assoc, sym, refl, ap, ◌∙◌, subst, arith}
 use Rattle.std.proofs.lemmas.Bool.Decides.{nat_tests}
-use Rattle.std.specs.Prelude.{Bool, true, false, nat_lt, Option, Some, None, Result, Ok, Err, IfOk, IfErr, IsErrAnd}
+use Rattle.std.specs.Prelude.{Bool, true, false, Option, Some, None, Result, Ok, Err, IfOk, IfErr, IsErrAnd}
 use Rattle.cell_table.specs.Pass.{IsSole}
 use Rattle.serial_terms.specs.declared.call.Done.{Done}
 use Rattle.serial_terms.specs.Entries.{Each, IsIn}
@@ -23,7 +23,7 @@ use Rattle.tx_stack.specs.declared.moving.Moved.{Moved}
 use Rattle.tx_stack.specs.declared.moving.Moved.TheVariants.{Yes, Empty, Full}
 use Rattle.tx_stack.specs.declared.part.StackPart.{StackPart}
 use Rattle.tx_stack.specs.declared.purpose.Stacks.{Stacks}
-use Rattle.tx_stack.specs.Calls.{IsStackOf, MayCallStack, Went, Did, WasStopped, Ends, IsCalledOn}
+use Rattle.tx_stack.specs.Calls.{IsStackOf, MayCallStack, Went, Did, WasStopped, IsCalledOn}
 use Rattle.tx_stack.specs.CallFacts.{one_call}
 use Rattle.tx_stack.specs.Moves.{IsMoveOf, IsMoveAdded, MovesBetween}
 use Rattle.tx_stack.specs.Stacks.{counted, pushed, shown, StackCall, cell_calls, all_cell_calls, IsStackCall, pushes, shows, pops, IsPutOn, IsItemOf}

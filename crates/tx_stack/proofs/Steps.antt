@@ -1,7 +1,7 @@
 -- What the calls of cells that a call on a stack makes leave together.
-use Rattle.std.proofs.Common.{◌≡◌, ℕ, zero, suc, ◌+◌, ◌-◌, ◌<◌, ◌≤◌, List, [], ◌∷◌, ◌++◌, sym, refl, ap, ◌∙◌, subst, arith}
+use Rattle.std.proofs.Common.{◌≡◌, ℕ, zero, suc, ◌<◌, ◌≤◌, List, [], ◌∷◌, ◌++◌, sym, refl, ap, ◌∙◌, subst, arith}
 use Rattle.std.proofs.lemmas.Bool.Decides.{nat_tests}
-use Rattle.std.specs.Prelude.{Bool, true, nat_lt, Result, Ok, Err, IsErrAnd}
+use Rattle.std.specs.Prelude.{Bool, true, Result, Ok, Err, IsErrAnd}
 use Rattle.serial_terms.specs.declared.call.Call.TheVariants.{CellGet, CellPut}
 use Rattle.serial_terms.specs.declared.call.Reply.TheVariants.{Nothing, Value}
 use Rattle.serial_terms.specs.declared.call.Done.{Done}
@@ -9,7 +9,7 @@ use Rattle.serial_terms.specs.Entries.{Each}
 use Rattle.serial_terms.specs.Histories.{Runs}
 use Rattle.serial_terms.specs.Names.{own_calls}
 use Rattle.serial_terms.specs.Ranges.{BelowCapacity}
-use Rattle.serial_terms.specs.Renaming.{NamedDone, by_key, by_name, SameButKeys}
+use Rattle.serial_terms.specs.Renaming.{by_key, by_name, SameButKeys}
 use Rattle.store_layout.specs.Shapes.{Shape, Object}
 use Rattle.store_meaning.specs.declared.meaning.StoreMeaning.{StoreMeaning}
 use Rattle.store_parts.specs.Parts.{noted}

@@ -1,9 +1,9 @@
 -- Calls of cells and of stacks one after another, for the proofs of this crate and of those above.
-use Rattle.std.proofs.Common.{◌≡◌, ℕ, ◌<◌, List, [], ◌∷◌, ◌++◌, append_assoc, sym, refl, ap, ◌∙◌, subst}
+use Rattle.std.proofs.Common.{◌≡◌, ℕ, List, [], ◌∷◌, ◌++◌, append_assoc, sym, refl, ap, ◌∙◌, subst}
 use Rattle.std.proofs.lemmas.List.{append-nil}
-use Rattle.std.specs.Prelude.{Bool, true, false, nat_lt, Option, Some, None, Result, Ok, Err}
+use Rattle.std.specs.Prelude.{false, Option, Some, None, Result, Ok, Err}
 use Rattle.serial_terms.specs.declared.call.Done.{Done}
-use Rattle.serial_terms.specs.Entries.{Each, IsIn}
+use Rattle.serial_terms.specs.Entries.{Each}
 use Rattle.serial_terms.specs.Facts.{each_append}
 use Rattle.serial_terms.specs.Renaming.{NamedDone, by_key}
 use Rattle.store_layout.specs.Shapes.{Shape, Object, IsCellOf}

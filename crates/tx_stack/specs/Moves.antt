@@ -1,5 +1,5 @@
 -- What a move does with two stacks.
-use Rattle.std.specs.Prelude.{◌≡◌, ◌≢◌, ℕ, ◌<◌, ◌≤◌, Bool, true, List, [], ◌∷◌, Option, Result, IfOk}
+use Rattle.std.specs.Prelude.{◌≡◌, ℕ, ◌<◌, ◌≤◌, Bool, true, List, [], ◌∷◌, Option, Result, IfOk}
 use Rattle.serial_terms.specs.Renaming.{NamedDone, by_key}
 use Rattle.tx_core.specs.declared.stop.Stop.{Stop}
 use Rattle.tx_store.specs.Calls.{in_child}

@@ -1,6 +1,6 @@
 -- Calls of cells that are read as calls on stacks run on the lists, so that allowed records keep the cells lawful: facts for the purpose that is
 -- proved where it is stated.
-use Rattle.std.proofs.Common.{◌≡◌, ℕ, zero, suc, ◌+◌, ◌-◌, ◌<◌, ◌≤◌, Bool, List, [], ◌∷◌, ◌++◌, length, append_assoc, sym, refl, ap, ◌∙◌, subst, arith}
+use Rattle.std.proofs.Common.{◌≡◌, ℕ, suc, ◌+◌, ◌-◌, ◌<◌, ◌≤◌, Bool, List, [], ◌∷◌, ◌++◌, length, append_assoc, sym, refl, ap, ◌∙◌, subst, arith}
 use Rattle.serial_terms.specs.declared.call.Reply.TheVariants.{Value}
 use Rattle.serial_terms.specs.declared.call.Done.{Done}
 use Rattle.serial_terms.specs.Counts.{with_at}
@@ -12,7 +12,7 @@ use Rattle.serial_terms.specs.Ranges.{BelowCapacity}
 use Rattle.serial_terms.specs.Renaming.{SameButKeys}
 use Rattle.serial_terms.specs.Serial.{State, put_cell, rest}
 use Rattle.tx_stack.specs.declared.part.StackPart.{StackPart}
-use Rattle.tx_stack.specs.Stacks.{items_at, StandForStacks, IsLawful, Act, counted, pushed, shown, popped, StackCall, HasRoom, cell_calls, all_cell_calls, IsStackCall, IsAllowed, IsAnswered, IsListFor, lists_after, stepped, RunsOnLists, RunsToStacks}
+use Rattle.tx_stack.specs.Stacks.{items_at, StandForStacks, IsLawful, Act, counted, pushed, shown, popped, StackCall, HasRoom, cell_calls, all_cell_calls, IsStackCall, IsAllowed, IsAnswered, lists_after, stepped, RunsToStacks}
 use Rattle.tx_stack.specs.Facts.{items_count, items_same, items_top, changed}
 
 value_is : (m n : ℕ) → Value m ≡ Value n → n ≡ m

@@ -1,4 +1,4 @@
-use Rattle.tx_stack.proofs.MoveSteps.{went, has_added, is_stopped, is_memory}
+use Rattle.tx_stack.proofs.MoveSteps.{went, has_added, is_stopped}
 use Rattle.tx_stack.proofs.moving.MovesTopChildBodyStoreTxStacks.body.Goals as goal
 
 pub returns-clause-stays : goal.returns-clause-stays
