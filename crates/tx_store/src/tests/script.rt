@@ -1,7 +1,5 @@
 //! What callers do in a test of a store, line by line, and what they are answered.
 
-use crate::commit::{CommitEnd, Receipt};
-use crate::run::RunEnd;
 use crate::{CommitEnd, MapStop, Receipt};
 use std::alloc::AllocError;
 use tx_core::Stop;
