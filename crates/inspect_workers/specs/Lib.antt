@@ -3,3 +3,4 @@ pub mod Noted
 pub mod Turns
 pub mod Works
 pub mod Fills
+pub mod Seats

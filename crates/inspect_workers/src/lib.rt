@@ -6,6 +6,7 @@
 
 mod fills;
 mod open;
+mod seats;
 mod transactions;
 mod turns;
 mod works;
