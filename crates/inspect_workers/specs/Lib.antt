@@ -4,3 +4,4 @@ pub mod Turns
 pub mod Works
 pub mod Fills
 pub mod Seats
+pub mod Inspected

@@ -5,6 +5,7 @@
 #![tactic(auto)]
 
 mod fills;
+mod inspection;
 mod open;
 mod seats;
 mod transactions;
@@ -12,8 +13,11 @@ mod turns;
 mod works;
 
 pub use fills::{RefillEnd, refill};
+pub use inspection::{InspectEnd, Outcome, inspect};
 pub use open::open_run;
 pub use run_bodies::{Gate, Kind, Point, Quiet};
 pub use run_purpose::RunPurpose;
+pub use serial_terms::StoreState;
 pub use turns::{TurnEnd, turn};
+pub use tx_store::History;
 pub use works::{WorkEnd, work};
