@@ -1,14 +1,16 @@
 //! What a pass of a store knows of the store's history. Each function does nothing; what it ensures is the law.
 ghost use Rattle.cell_table.specs.Pass.{IsSole};
+ghost use Rattle.serial_terms.specs.Entries.{AreBooks};
 ghost use Rattle.serial_terms.specs.Renaming.{NamedDone};
 ghost use Rattle.serial_terms.specs.Sights.{Seen};
+ghost use Rattle.store_contents.specs.Closed.{books_by_key};
 ghost use Rattle.store_meaning.specs.declared.meaning.StoreMeaning.{StoreMeaning};
 ghost use Rattle.tx_store.specs.Known.{KnowsHistory, KnowsWholeHistory, Vouches, Extends};
 ghost use Rattle.tx_store.specs.Stores.{PassView, IsPassOfStore};
 
 use crate::pass::StorePass;
 use crate::store::Store;
-use store_history::{one_history_law, whole_history_law};
+use store_history::{books_by_key_law, one_history_law, whole_history_law};
 use store_meaning::Purpose;
 
 impl<P: Purpose> StorePass<P> {
@@ -29,6 +31,13 @@ impl<P: Purpose> StorePass<P> {
         ensures { KnowsWholeHistory P.lawful_state P.allowed store.now.table.meaning self.now.pass }
     {
         whole_history_law(&self.pass, store.table.meaning());
+    }
+
+    /// The books of a pass are those of different callers, each with the records of its caller alone, in their order.
+    pub fn books_law(&self)
+        ensures { AreBooks (books_by_key self.now.pass) }
+    {
+        books_by_key_law(&self.pass);
     }
 }
 
