@@ -6,3 +6,6 @@ pub mod Bounding
 pub mod Giving
 pub mod Starting
 pub mod Working
+pub mod Seating
+pub mod Sharing
+pub mod Joining
