@@ -9,3 +9,5 @@ pub mod Working
 pub mod Seating
 pub mod Sharing
 pub mod Joining
+pub mod Filling
+pub mod Batching

@@ -5,3 +5,4 @@ pub mod Works
 pub mod Fills
 pub mod Seats
 pub mod Inspected
+pub mod Batches

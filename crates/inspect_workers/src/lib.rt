@@ -4,6 +4,7 @@
 //! done. [`work`] is all turns of one worker, and [`refill`] gives the next tasks once all that were given are done.
 #![tactic(auto)]
 
+mod batches;
 mod fills;
 mod inspection;
 mod open;
