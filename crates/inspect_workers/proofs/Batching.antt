@@ -1,6 +1,6 @@
 -- How the pass of all callers ends a batch alone.
 use Rattle.std.proofs.Common.{◌≡◌, ℕ, ◌+◌, ◌*◌, ◌^◌, ◌<◌, ◌≤◌, inl, inr, List, length, get_or, refl, sym, ap, ◌∙◌, subst, arith}
-use Rattle.cell_table.specs.Pass.{IsSole}
+use Rattle.cell_table.specs.Pass.{PassState, IsSole, opened}
 use Rattle.inspect_workers.specs.declared.fills.RefillEnd.{RefillEnd}
 use Rattle.inspect_workers.specs.declared.fills.RefillEnd.TheVariants as refills
 use Rattle.inspect_workers.specs.declared.works.WorkEnd.{WorkEnd}
@@ -8,14 +8,17 @@ use Rattle.inspect_workers.specs.declared.works.WorkEnd.TheVariants as works
 use Rattle.inspect_workers.specs.Batches.{RunStore, RunPass, IsAtEnd, HasBatchEnded, MayGoOn}
 use Rattle.inspect_workers.specs.Fills.{IsRefillEnd}
 use Rattle.inspect_workers.specs.Noted.{AddsUpTo, IsOfWorker, fills_in}
-use Rattle.inspect_workers.specs.Opened.{IsOpenedFor}
+use Rattle.inspect_workers.specs.Opened.{IsOpenedFor, IsOpeningPass}
 use Rattle.inspect_workers.specs.Seats.{IsWholeAtRest}
 use Rattle.inspect_workers.specs.Turns.{FindsNothing, IsFullLog, IsRefusedTurn}
 use Rattle.inspect_workers.specs.Works.{IsWorkEnd, IsLastTurn, most_draws}
-use Rattle.inspect_workers.proofs.Filling.{one_fill, records_stay}
+use Rattle.inspect_workers.proofs.Filling.{one_fill, records_stay, none_new}
 use Rattle.inspection_terms.specs.Findings.{all_findings}
 use Rattle.run_bodies.specs.RunStores.{work_of_run}
 use Rattle.run_purpose.specs.declared.purpose.RunPurpose.{RunPurpose}
+use Rattle.serial_terms.specs.Renaming.{NamedDone}
+use Rattle.store_meaning.specs.declared.meaning.StoreMeaning.{StoreMeaning}
+use Rattle.key_directory.specs.declared.key_test.BelowCapacity.{BelowCapacity}
 use Rattle.run_stages.specs.Ends.{AreAllDatagrams}
 use Rattle.run_stages.specs.Work.{Work, values_of}
 use Rattle.serial_terms.specs.RunLayout.{layout_by}
@@ -105,3 +108,19 @@ module _ (store : RunStore) (w : Work) (fills : ℕ) (first old new : RunPass) (
         filled = omega (arith, one, before, same);
         draws_left = omega (arith, a, b, d, few);
       }
+
+-- the first batch may begin with the pass as it opened
+pub opened_may : (workers : ℕ) (store : RunStore) (p : RunPass) → IsOpeningPass workers store p → MayGoOn store 0 p
+opened_may workers store p is =
+    let callers = is.callers in
+    let draws = is.draws in
+    record {
+      pass = record {
+        of = is.of;
+        sole = is.sole;
+        idle = is.idle;
+        room = let room = ap (λ (q : PassState (StoreMeaning RunPurpose BelowCapacity) NamedDone). q.room) is.pass in omega (arith, room);
+      };
+      filled = ap (λ (q : PassState (StoreMeaning RunPurpose BelowCapacity) NamedDone). fills_in q.books) is.pass ∙ none_new 0 store.table.callers;
+      draws_left = omega (arith, callers, draws);
+    }

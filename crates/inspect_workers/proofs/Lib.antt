@@ -11,3 +11,5 @@ pub mod Sharing
 pub mod Joining
 pub mod Filling
 pub mod Batching
+pub mod RulesThere
+pub mod Ending

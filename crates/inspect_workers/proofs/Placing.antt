@@ -11,7 +11,7 @@ each_in P [] x a i = absurd i
 each_in P (y ∷ ys) x a (inl e) = subst P e a.0
 each_in P (y ∷ ys) x a (inr i) = each_in P ys x a.1 i
 
-all_in : {A : Type 0} (P : A → Type 0) (xs : List A) → ((x : A) → IsIn x xs → P x) → Each P xs
+pub all_in : {A : Type 0} (P : A → Type 0) (xs : List A) → ((x : A) → IsIn x xs → P x) → Each P xs
 all_in P [] f = tt
 all_in P (x ∷ xs) f = (f x (inl refl), all_in P xs (λ y i. f y (inr i)))
 

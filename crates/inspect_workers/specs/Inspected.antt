@@ -7,6 +7,7 @@ use Rattle.inspect_workers.specs.declared.inspection.InspectEnd.{InspectEnd}
 use Rattle.inspect_workers.specs.declared.inspection.InspectEnd.TheVariants.{LogFull, Memory}
 use Rattle.inspection_terms.specs.Findings.{all_findings}
 use Rattle.rule_terms.specs.Rule.{Rule}
+use Rattle.run_purpose.specs.Finished.{IsFinishedRun}
 use Rattle.run_purpose.specs.Lawful.{layout_for}
 use Rattle.run_stages.specs.Allowed.{IsAllowed}
 use Rattle.run_stages.specs.FromCapture.{work_of_plan}
@@ -15,6 +16,13 @@ use Rattle.serial_terms.specs.declared.store.StoreState.{StoreState}
 use Rattle.serial_terms.specs.Entries.{Entry, Each}
 use Rattle.serial_terms.specs.Histories.{IsLegalHistory}
 use Rattle.serial_terms.specs.Stores.{opening_of, state_of}
+use Rattle.store_contents.specs.Contents.{AreByKey}
+
+-- it is the number of map 0's keys, and that is the number of the groups that are no whole datagram
+pub record CountsIncomplete (plan : Plan) (contents : StoreState) (n : ℕ) : Type 0 where
+  pub keys : n ≡ length (get_or contents.maps 0 [])
+  pub groups : n ≡ incomplete plan.tasks.items plan.groups.items
+  pub few : n ≤ length plan.groups.items
 
 module _ (rules : List Rule) (bytes : List ℕ) (plan : Plan) (findings : ℕ) where
   -- One legal history of allowed records leads from the opening of the run's store to these contents, in which pool and queue are empty
@@ -38,8 +46,12 @@ module _ (rules : List Rule) (bytes : List ℕ) (plan : Plan) (findings : ℕ) w
   IsInspectEnd (LogFull capacity) = (capacity ≡ findings) × (findings < length (all_findings rules bytes plan.tasks.items))
   IsInspectEnd Memory = Unit {0}
 
--- it is the number of map 0's keys, and that is the number of the groups that are no whole datagram
-pub record CountsIncomplete (plan : Plan) (contents : StoreState) (n : ℕ) : Type 0 where
-  pub keys : n ≡ length (get_or contents.maps 0 [])
-  pub groups : n ≡ incomplete plan.tasks.items plan.groups.items
-  pub few : n ≤ length plan.groups.items
+  -- what the end of a run tells
+  pub record Tells (history : List (Entry Done)) (contents : StoreState) : Type 0 where
+    pub run : IsRunTo history contents
+    pub found : (found : List ℕ) → IsPermutation (get_or contents.logs 0 []) found → IsNonDecreasing found → AreFindings contents found
+    pub incomplete : (n : ℕ) → n ≡ length (get_or contents.maps 0 []) → CountsIncomplete plan contents n
+
+  abbrev pub FinishedRunsTell : Type 0
+  FinishedRunsTell = (history : List (Entry Done)) (contents : StoreState) → IsFinishedRun rules bytes plan findings history contents
+      → AreByKey (get_or contents.maps 0 []) → Tells history contents
