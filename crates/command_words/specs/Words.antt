@@ -20,20 +20,20 @@ names_of names = record { rules = names.rules.now; capture = names.capture.now }
 
 -- what is asked of the program: nothing that it knows, to inspect the files of these names with these
 -- settings, to judge the journal of this name, to generate a capture from a seed with so many frames, or
--- to try the program on one
+-- to try so many workers on one
 pub data Asked : Type 0 where
   unknown : Asked
   inspect : Names → Settings → Asked
   audit : List ℕ → Asked
   make : ℕ → ℕ → Asked
-  trial : ℕ → ℕ → Asked
+  trial : ℕ → ℕ → ℕ → Asked
 
 abbrev pub asked_of : Command → Asked
 asked_of Unknown = unknown
 asked_of (Inspect names settings) = inspect (names_of names) settings
 asked_of (Audit journal) = audit journal.now
 asked_of (Make making) = make making.seed making.frames
-asked_of (Trial making) = trial making.seed making.frames
+asked_of (Trial making workers) = trial workers making.seed making.frames
 
 -- The words of an inspection.
 
@@ -55,11 +55,17 @@ with_option options word value =
     then option_map (λ window. record options { window = Some window }) (number_in 1 86400 value)
     else if bytes_eq word (codes "--findings") && is_none options.findings
     then option_map (λ findings. record options { findings = Some findings }) (number_in 1 1048576 value)
+    else if bytes_eq word (codes "--workers") && is_none options.workers
+    then option_map (λ workers. record options { workers = Some workers }) (number_in 1 16 value)
     else None
 
--- the settings that these options give: 65,536 findings and 30 seconds where they don't say it
+abbrev pub usual_workers : ℕ
+usual_workers = 4
+
+-- the settings that these options give: 65,536 findings, 30 seconds and four workers where they don't say it
 abbrev pub settings_by : Options → Settings
-settings_by options = record { findings = unwrap_or options.findings 65536; window = unwrap_or options.window 30 }
+settings_by options =
+    record { findings = unwrap_or options.findings 65536; window = unwrap_or options.window 30; workers = unwrap_or options.workers usual_workers }
 
 -- an inspection of the files of these names, if names they are
 unfoldable pub inspection_of : Options → List ℕ → List ℕ → Asked
@@ -77,7 +83,7 @@ inspection_by options (word ∷ value ∷ other ∷ words) =
     option_map_or (λ more. inspection_by more (other ∷ words)) (with_option options word value) unknown
 
 abbrev pub no_options : Options
-no_options = record { window = None; findings = None }
+no_options = record { window = None; findings = None; workers = None }
 
 -- the audit of a journal: one name
 unfoldable pub audit_by : List (List ℕ) → Asked
@@ -94,11 +100,20 @@ unfoldable pub making_by : (ℕ → ℕ → Asked) → List (List ℕ) → Asked
 making_by ask (seed ∷ frames ∷ []) = option_map_or (λ making. ask making.0 making.1) (making_of seed frames) unknown
 making_by ask words = unknown
 
+-- a trial by so many workers where they are given, behind the one option
+unfoldable pub trial_by : List (List ℕ) → Asked
+trial_by (seed ∷ frames ∷ []) = making_by (trial usual_workers) (seed ∷ frames ∷ [])
+trial_by (option ∷ value ∷ seed ∷ frames ∷ []) =
+    if bytes_eq option (codes "--workers")
+    then option_map_or (λ workers. making_by (trial workers) (seed ∷ frames ∷ [])) (number_in 1 16 value) unknown
+    else unknown
+trial_by words = unknown
+
 -- what the words behind the program's own name ask for, where they are one of these:
---     inspect [--findings N] [--window N] RULES CAPTURE
+--     inspect [--workers N] [--findings N] [--window N] RULES CAPTURE
 --     audit JOURNAL
 --     make SEED FRAMES
---     trial SEED FRAMES
+--     trial [--workers N] SEED FRAMES
 -- The options come in any order.
 unfoldable pub asked_by : List (List ℕ) → Asked
 asked_by [] = unknown
@@ -106,5 +121,5 @@ asked_by (command ∷ words) =
     if bytes_eq command (codes "inspect") then inspection_by no_options words
     else if bytes_eq command (codes "audit") then audit_by words
     else if bytes_eq command (codes "make") then making_by make words
-    else if bytes_eq command (codes "trial") then making_by trial words
+    else if bytes_eq command (codes "trial") then trial_by words
     else unknown

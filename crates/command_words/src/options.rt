@@ -2,6 +2,7 @@
 ghost use Rattle.std.specs.Prelude.{◌≡◌, ℕ, ◌<◌, ◌≤◌, ◌^◌, None, IfSome};
 ghost use Rattle.std.specs.Fmt.{decimal};
 ghost use Rattle.command_words.specs.Words.{number_in, with_option};
+ghost use Rattle.command_words.specs.Limits.{IsOptionsWithin};
 
 use itoa::Buffer;
 
@@ -11,6 +12,9 @@ const MAX_WINDOW: u64 = 86_400;
 /// The most findings that may be asked for.
 const MAX_FINDINGS: u64 = 1_048_576;
 
+/// The most workers that may be asked for.
+pub(crate) const MAX_WORKERS: u64 = 16;
+
 /// The options that were given so far, each with its value.
 #[derive(Clone, Copy, Debug)]
 pub struct Options {
@@ -18,6 +22,8 @@ pub struct Options {
     pub window: Option<u32>,
     /// The most findings.
     pub findings: Option<u32>,
+    /// The number of workers.
+    pub workers: Option<u32>,
 }
 
 // The number whose decimal digits the word is, if it is one below 2^64.
@@ -40,6 +46,7 @@ fn written(word: &str) -> Option<u64>
 /// `least` up to `most`.
 pub(crate) fn number_in(word: &str, least: u64, most: u64) -> Option<u64>
     ensures number { result ≡ number_in least most word.now }
+    ensures least { IfSome result (λ number. least ≤ number) }
     ensures most { IfSome result (λ number. number ≤ most) }
 {
     let number = written(word)?;
@@ -55,7 +62,8 @@ impl Options {
     /// that was given already, or where the value is none of the option's.
     #[tactic(auto, unfolding(crate::specs::Words::with_option))]
     pub fn with(self, word: &str, value: &str) -> Option<Options>
-        ensures { result ≡ with_option self word.now value.now }
+        ensures with { result ≡ with_option self word.now value.now }
+        ensures within { IsOptionsWithin self → IfSome result IsOptionsWithin }
     {
         if word == "--window" && self.window.is_none() {
             let window = number_in(value, 1, MAX_WINDOW)?;
@@ -67,6 +75,12 @@ impl Options {
             let findings = number_in(value, 1, MAX_FINDINGS)?;
             Some(Options {
                 findings: Some(findings as u32),
+                ..self
+            })
+        } else if word == "--workers" && self.workers.is_none() {
+            let workers = number_in(value, 1, MAX_WORKERS)?;
+            Some(Options {
+                workers: Some(workers as u32),
                 ..self
             })
         } else {

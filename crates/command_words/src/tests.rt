@@ -12,11 +12,16 @@ fn list(alloc: Global, words: &[&str]) -> Result<Vec<String>, AllocError> {
 
 #[test]
 fn an_inspection_is_read_from_its_words(rt: HostRuntime) -> Result<(), Fail> {
-    let lists: [(&[&str], u32, u32); 6] = [
-        (&["inspect", "r", "-c"], 65_536, 30),
-        (&["inspect", "--window", "1", "r", "-c"], 65_536, 1),
-        (&["inspect", "--window", "86400", "r", "-c"], 65_536, 86_400),
-        (&["inspect", "--findings", "1", "r", "-c"], 1, 30),
+    let lists: [(&[&str], u32, u32, u32); 9] = [
+        (&["inspect", "r", "-c"], 65_536, 30, 4),
+        (&["inspect", "--window", "1", "r", "-c"], 65_536, 1, 4),
+        (
+            &["inspect", "--window", "86400", "r", "-c"],
+            65_536,
+            86_400,
+            4,
+        ),
+        (&["inspect", "--findings", "1", "r", "-c"], 1, 30, 4),
         (
             &[
                 "inspect",
@@ -29,14 +34,34 @@ fn an_inspection_is_read_from_its_words(rt: HostRuntime) -> Result<(), Fail> {
             ],
             1_048_576,
             31,
+            4,
         ),
         (
             &["inspect", "--window", "31", "--findings", "2", "r", "-c"],
             2,
             31,
+            4,
+        ),
+        (&["inspect", "--workers", "1", "r", "-c"], 65_536, 30, 1),
+        (&["inspect", "--workers", "16", "r", "-c"], 65_536, 30, 16),
+        (
+            &[
+                "inspect",
+                "--window",
+                "31",
+                "--workers",
+                "2",
+                "--findings",
+                "3",
+                "r",
+                "-c",
+            ],
+            3,
+            31,
+            2,
         ),
     ];
-    for (words, findings, window) in lists {
+    for (words, findings, window, workers) in lists {
         let words = list(rt.alloc(), words)?;
         let Command::Inspect { names, settings } = command_of(&words) else {
             assert!(rt; false, "an inspection");
@@ -46,6 +71,7 @@ fn an_inspection_is_read_from_its_words(rt: HostRuntime) -> Result<(), Fail> {
         assert_eq!(rt; names.capture, "-c");
         assert_eq!(rt; settings.findings, findings);
         assert_eq!(rt; settings.window, window);
+        assert_eq!(rt; settings.workers, workers);
     }
     Ok(())
 }
@@ -116,15 +142,23 @@ fn a_capture_to_make_or_to_try_is_read_from_its_words(rt: HostRuntime) -> Result
         };
         assert_eq!(rt; making.seed, want_seed);
         assert_eq!(rt; making.frames, want_frames);
-        let words = list(rt.alloc(), &["trial", seed_word, frames_word])?;
-        let Command::Trial(tried) = command_of(&words) else {
+    }
+    let tried: [(&[&str], u64, u32, u32); 3] = [
+        (&["trial", "9", "0"], 9, 0, 4),
+        (&["trial", "--workers", "1", "9", "0"], 9, 0, 1),
+        (&["trial", "--workers", "16", "0", "262144"], 0, 262_144, 16),
+    ];
+    for (words, want_seed, want_frames, want_workers) in tried {
+        let words = list(rt.alloc(), words)?;
+        let Command::Trial { making, workers } = command_of(&words) else {
             assert!(rt; false, "a trial");
             return Ok(());
         };
-        assert_eq!(rt; tried.seed, want_seed);
-        assert_eq!(rt; tried.frames, want_frames);
+        assert_eq!(rt; making.seed, want_seed);
+        assert_eq!(rt; making.frames, want_frames);
+        assert_eq!(rt; workers, want_workers);
     }
-    let others: [&[&str]; 12] = [
+    let others: [&[&str]; 19] = [
         &["make"],
         &["trial", "9"],
         &["trial", "9", "262145"],
@@ -136,6 +170,13 @@ fn a_capture_to_make_or_to_try_is_read_from_its_words(rt: HostRuntime) -> Result
         &["make", "9", "262145"],
         &["make", "9", "+1"],
         &["make", "--workers", "4"],
+        &["make", "--workers", "4", "9", "0"],
+        &["trial", "--workers", "4"],
+        &["trial", "--workers", "4", "9"],
+        &["trial", "--workers", "17", "9", "0"],
+        &["trial", "--workers", "0", "9", "0"],
+        &["trial", "9", "0", "--workers", "4"],
+        &["trial", "--workers", "4", "--workers", "4", "9", "0"],
         &["Make", "9", "0"],
     ];
     for words in others {
@@ -147,7 +188,7 @@ fn a_capture_to_make_or_to_try_is_read_from_its_words(rt: HostRuntime) -> Result
 
 #[test]
 fn other_words_are_unknown(rt: HostRuntime) -> Result<(), Fail> {
-    let lists: [&[&str]; 25] = [
+    let lists: [&[&str]; 29] = [
         &[],
         &["inspect"],
         &["inspect", "r"],
@@ -155,7 +196,11 @@ fn other_words_are_unknown(rt: HostRuntime) -> Result<(), Fail> {
         &["inspect", "", "c"],
         &["inspect", "r", "--"],
         &["inspect", "--workers", "c"],
+        &["inspect", "--workers", "r", "c"],
+        &["inspect", "--workers", "0", "r", "c"],
         &["inspect", "--workers", "17", "r", "c"],
+        &["inspect", "--workers", "04", "r", "c"],
+        &["inspect", "r", "c", "--workers", "4"],
         &["inspect", "--workers", "4", "--workers", "4", "r", "c"],
         &["inspect", "--findings", "010", "r", "c"],
         &["inspect", "--findings", "0", "r", "c"],
