@@ -1,16 +1,19 @@
 -- What holds of a run of the program, whichever command its words are.
-use Rattle.std.proofs.Common.{◌≡◌, inl, inr, ℕ, List, Result, refl, sym, ◌∙◌, ap, subst, arith}
-use Rattle.std.specs.Prelude.{IfOk, IfErr, Vec}
-use Rattle.std.specs.declared.alloc.Global.{Global}
+use Rattle.std.proofs.Common.{◌≡◌, inl, inr, ℕ, List, Result, Ok, Err, refl, sym, ◌∙◌, ap, subst, arith}
+use Rattle.std.specs.Prelude.{◌≢◌, ◌⊎◌, IfOk, IfErr, Option, None}
 use Rattle.journal_terms.specs.Legal.{FirstBadLines}
 use Rattle.command_words.specs.Words.{Asked, unknown, inspect, audit, make, trial, asked_by}
 use Rattle.report.specs.declared.fault.Fault.{Fault}
 use Rattle.report.specs.Fault.{Cause, no_command, unwritten, no_memory, cause_of, status_of}
-use Rattle.tdsl_tool.specs.Commands.{IsOutput, IsStop, IsAlone, Ran}
+use Rattle.tdsl_tool.specs.Commands.{IsOutput, IsStop, IsAlone, HandsOut, Ran}
+use Rattle.serial_terms.specs.Entries.{Entry}
+use Rattle.serial_terms.specs.declared.call.Done.{Done}
+use Rattle.tdsl_tool.specs.Handed.{records_of, records_made}
 use Rattle.tdsl_tool.specs.Making.{ReadsNothing}
+use Rattle.tdsl_tool.specs.declared.made.Made.{Made}
 use Rattle.tdsl_tool.specs.Run.{Folder, Writing, Run, source, reading, Ending, finished, faulted, ending_status, Tells, TellsLine, outcome_of, IsPut, EndsSo}
 use Rattle.tdsl_tool.specs.Verdict.{RuleFileIsOne, SomeAnswerOf, VerdictIsOne}
-use Rattle.tdsl_tool.proofs.Ended.{ends_so, own_status, completed, is_run_of}
+use Rattle.tdsl_tool.proofs.Ended.{some_status, ends_so, own_status, completed, is_run_of}
 use Rattle.tdsl_tool.proofs.Ran.{inspected}
 use Rattle.tdsl_tool.proofs.Audited.{audited}
 
@@ -26,7 +29,7 @@ module _ (files : Folder) where
   none_unwritten (inspect names settings) (inr why) = why
   none_unwritten (audit name) why = why
   none_unwritten (make seed frames) is = absurd (cc)
-  none_unwritten (trial seed frames) is = absurd (cc)
+  none_unwritten (trial workers seed frames) is = absurd (cc)
 
   -- and none for words that are no command, but such words
   no_command_only : (asked : Asked) → IsStop asked files no_command → asked ≡ unknown
@@ -35,7 +38,7 @@ module _ (files : Folder) where
   no_command_only (inspect names settings) (inr why) = absurd why
   no_command_only (audit name) why = absurd why
   no_command_only (make seed frames) is = absurd (cc)
-  no_command_only (trial seed frames) is = absurd (cc)
+  no_command_only (trial workers seed frames) is = absurd (cc)
 
   usage_only : (asked : Asked) (out : Writing) (ending : Ending) → Ends asked out ending → ending_status ending ≡ 1 → asked ≡ unknown
   usage_only asked out (faulted no_command) ends is = no_command_only asked ends.0
@@ -48,10 +51,29 @@ module _ (files : Folder) where
   usage_told out faults (faulted unwritten) ends tells = absurd ends.1
   usage_told out faults (faulted cause) ends tells = (ap status_of ends.0, subst (λ (c : Cause). TellsLine faults c) ends.0 tells, ends.1)
 
+  -- none that stops ends as one that made its output
+  not_made : (asked : Asked) (cause : Cause) → IsStop asked files cause → (status_of cause ≡ 0) ⊎ (status_of cause ≡ 3) → ⊥
+  not_made asked unwritten is status = none_unwritten asked is
+  not_made asked cause is status = elim status [ inl zero ↦ omega (arith, zero, some_status cause) | inr three ↦ omega (arith, three) ]
+
+  -- the workers' records come with what was made, and with nothing else
+  module _ (asked : Asked) (out : Writing) where
+    handed : (made : Result Made Fault) (ending : Ending) → IfOk made (λ m. HandsOut asked files (records_of m)) → IfErr made (λ fault. IsStop asked files (cause_of fault)) → IsPut (outcome_of made) out ending
+        → (ending_status ending ≡ 0) ⊎ (ending_status ending ≡ 3) → HandsOut asked files (records_made made)
+    handed (Ok made) ending hands stop put status = hands
+    handed (Err fault) finished hands stop put status = absurd put
+    handed (Err fault) (faulted cause) hands stop put status = absurd (not_made asked cause (subst (λ (c : Cause). IsStop asked files c) (sym put.0) stop) status)
+
+    none_handed : (made : Result Made Fault) (ending : Ending) → IsPut (outcome_of made) out ending → ending_status ending ≢ 0 → ending_status ending ≢ 3 → records_made made ≡ None
+    none_handed (Ok made) finished put nonzero other = absurd (nonzero refl)
+    none_handed (Ok made) (faulted unwritten) put nonzero other = absurd (other refl)
+    none_handed (Ok made) (faulted cause) put nonzero other = absurd put
+    none_handed (Err fault) ending put nonzero other = refl
+
   -- a command that reads no file stops for want of memory alone
   memory_only : (asked : Asked) → IsAlone asked → (cause : Cause) → IsStop asked files cause → cause ≡ no_memory
   memory_only (make seed frames) here cause is = is
-  memory_only (trial seed frames) here cause is = is
+  memory_only (trial workers seed frames) here cause is = is
   memory_only asked here cause is = absurd here
 
 module _ (one : VerdictIsOne) (one_file : RuleFileIsOne) (some : SomeAnswerOf) (bad_lines : FirstBadLines) where
@@ -71,21 +93,29 @@ module _ (one : VerdictIsOne) (one_file : RuleFileIsOne) (some : SomeAnswerOf) (
           complete = completed (IsOutput (asked_by words) run.files) (IsStop (asked_by words) run.files) run.out only ending run.status ends is;
         }
 
-    ran : (IsAlone (asked_by words) → (file : List ℕ) → run.files.after file ≡ run.files.before file) → Ran words run
-    ran quiet = record {
+    ran : (IsAlone (asked_by words) → (file : List ℕ) → run.files.after file ≡ run.files.before file)
+        → ((run.status ≡ 0) ⊎ (run.status ≡ 3) → HandsOut (asked_by words) run.files run.history) → (run.status ≢ 0 → run.status ≢ 3 → run.history ≡ None) → Ran words run
+    ran quiet hands none = record {
       usage = (usage_is, λ none. is ∙ (usage_told run.files run.out run.faults ending (at unknown none) tells).0);
       usage_line = λ status. let told = usage_told run.files run.out run.faults ending (at unknown (usage_is status)) tells in (told.1, told.2);
       ends = is_run_of (IsOutput (asked_by words) run.files) (IsStop (asked_by words) run.files) run ending is ends tells;
       inspection = λ names settings are. inspected one one_file some run (reading run.files names settings) ending is (at (inspect names settings) are);
       audit_of = λ name are. audited bad_lines run (source run.files name) ending is (at (audit name) are);
       alone = λ here. reads_nothing (quiet here) here;
+      history = hands;
+      no_history = none;
     }
 
   -- a run that put what its command made
-  pub ran_by : (words : List (List ℕ)) (run : Run) (asked : Asked) (made : Result (Vec ℕ Global) Fault) (ending : Ending) → asked ≡ asked_by words
-      → IfOk made (λ text. IsOutput asked run.files text.items) → IfErr made (λ fault. IsStop asked run.files (cause_of fault)) → IsPut (outcome_of made) run.out ending
+  pub ran_by : (words : List (List ℕ)) (run : Run) (asked : Asked) (made : Result Made Fault) (ending : Ending) → asked ≡ asked_by words
+      → IfOk made (λ m. IsOutput asked run.files m.text.items) → IfOk made (λ m. HandsOut asked run.files (records_of m)) → IfErr made (λ fault. IsStop asked run.files (cause_of fault))
+      → IsPut (outcome_of made) run.out ending → run.history ≡ records_made made
       → (IsAlone asked → (file : List ℕ) → run.files.after file ≡ run.files.before file) → run.status ≡ ending_status ending → Tells run.faults ending → Ran words run
-  ran_by words run asked made ending are output stop put quiet is tells =
+  ran_by words run asked made ending are output hands stop put history_is quiet is tells =
       let ends = ends_so (IsOutput asked run.files) (IsStop asked run.files) run.out (none_unwritten run.files asked) made output stop ending put in
       ran words run ending is (subst (λ (a : Asked). Ends run.files a run.out ending) are ends) tells
       (λ alone. quiet (subst (λ (a : Asked). IsAlone a) (sym are) alone))
+      (λ status. subst (λ (h : Option (List (Entry Done))). HandsOut (asked_by words) run.files h) (sym history_is)
+      (subst (λ (a : Asked). HandsOut a run.files (records_made made)) are
+      (handed run.files asked run.out made ending hands stop put (subst (λ (n : ℕ). (n ≡ 0) ⊎ (n ≡ 3)) is status))))
+      (λ nonzero other. history_is ∙ none_handed run.files asked run.out made ending put (λ zero. nonzero (is ∙ zero)) (λ three. other (is ∙ three)))

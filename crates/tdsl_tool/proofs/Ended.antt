@@ -1,9 +1,9 @@
 -- What holds of the run of any command, from how it ended.
 use Rattle.std.proofs.Common.{◌≡◌, ◌≢◌, ◌⊎◌, inl, inr, ℕ, ◌<◌, List, Result, Ok, Err, refl, sym, ◌∙◌, ap, subst, arith}
-use Rattle.std.specs.Prelude.{IfOk, IfErr, Vec}
-use Rattle.std.specs.declared.alloc.Global.{Global}
+use Rattle.std.specs.Prelude.{IfOk, IfErr}
 use Rattle.report.specs.declared.fault.Fault.{Fault}
 use Rattle.report.specs.Fault.{Cause, no_command, unwritten, no_memory, cause_of, status_of}
+use Rattle.tdsl_tool.specs.declared.made.Made.{Made}
 use Rattle.tdsl_tool.specs.Verdict.{Verdict, reports, stops}
 use Rattle.tdsl_tool.specs.Run.{Writing, IsFaulty, Run, Ending, finished, faulted, ending_status, Tells, outcome_of, IsPut, IsWritten, IsCutOff, EndsSo, IsRunOf}
 
@@ -21,8 +21,8 @@ module _ (Is : List ℕ → Type 0) (Stops : Cause → Type 0) where
   Fits (reports text) = Is text
   Fits (stops cause) = Stops cause
 
-  fits : (made : Result (Vec ℕ Global) Fault) → IfOk made (λ text. Is text.items) → IfErr made (λ fault. Stops (cause_of fault)) → Fits (outcome_of made)
-  fits (Ok text) is stop = is
+  fits : (made : Result Made Fault) → IfOk made (λ m. Is m.text.items) → IfErr made (λ fault. Stops (cause_of fault)) → Fits (outcome_of made)
+  fits (Ok made) is stop = is
   fits (Err fault) is stop = stop
 
   module _ (out : Writing) where
@@ -35,7 +35,7 @@ module _ (Is : List ℕ → Type 0) (Stops : Cause → Type 0) where
     put_so none (stops cause) is (faulted other) put = (subst Stops (sym put.0) is, put.1)
 
     -- what was made and put ends a command so
-    pub ends_so : ¬ Stops unwritten → (made : Result (Vec ℕ Global) Fault) → IfOk made (λ text. Is text.items) → IfErr made (λ fault. Stops (cause_of fault)) → (ending : Ending) → IsPut (outcome_of made) out ending → EndsSo Is Stops out ending
+    pub ends_so : ¬ Stops unwritten → (made : Result Made Fault) → IfOk made (λ m. Is m.text.items) → IfErr made (λ fault. Stops (cause_of fault)) → (ending : Ending) → IsPut (outcome_of made) out ending → EndsSo Is Stops out ending
     ends_so none made is stop ending put = put_so none (outcome_of made) (fits made is stop) ending put
 
     output_cause : (ending : Ending) → EndsSo Is Stops out ending → ending_status ending ≡ 0 → IsWritten Is out

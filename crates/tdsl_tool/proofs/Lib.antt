@@ -2,10 +2,6 @@ pub mod Verdicts
 pub mod Planned
 pub mod Reported
 pub mod OneVerdict
-pub mod FindingNumbers
-pub mod MemberSteps
-pub mod IncompleteGroups
-pub mod FindingSteps
 pub mod FewFindings
 pub mod Tried
 pub mod Ended

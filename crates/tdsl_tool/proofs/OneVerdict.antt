@@ -4,7 +4,7 @@ use Rattle.capture_terms.specs.Capture.{Answer, IsAnswer}
 use Rattle.std.proofs.lemmas.Bool.{cases_Bool}
 use Rattle.pcapng_blocks.specs.Answer.{is_pcapng, IsBlocksAnswer}
 use Rattle.rule_terms.specs.Laws.{TextHasOneReading}
-use Rattle.tdsl_tool.specs.Verdict.{IsAnswerOf, AnswerIsOne, SomeAnswerOf, RuleFile, rule_file_of, RuleFileIsOne, CaptureFile, file_of, IsCaptureFile, VerdictIsOne, verdict_of}
+use Rattle.tdsl_tool.specs.Verdict.{AnswerIsOne, SomeAnswerOf, RuleFile, rule_file_of, RuleFileIsOne, CaptureFile, file_of, IsCaptureFile, VerdictIsOne, verdict_of}
 
 abbrev IsOneOf : (List ℕ → Answer → Type 0) → Type 0
 IsOneOf Is = (bytes : List ℕ) (one two : Answer) → Is bytes one → Is bytes two → one ≡ two

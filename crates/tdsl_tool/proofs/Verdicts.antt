@@ -1,14 +1,17 @@
 -- What the parts of a run find, put together.
-use Rattle.std.proofs.Common.{◌≡◌, inl, inr, ℕ, ◌≤◌, List, length, Option, Some, refl, sym, subst}
-use Rattle.std.specs.Prelude.{IfSome}
+use Rattle.std.proofs.Common.{◌≡◌, inl, inr, ℕ, ◌≤◌, List, length, Option, None, Some, refl, sym, subst}
+use Rattle.std.specs.Prelude.{IfSome, IsSomeAnd}
 use Rattle.byte_ends.specs.Told.{IfTold}
 use Rattle.capture_terms.specs.Capture.{Answer}
 use Rattle.rule_terms.specs.Rule.{Rule}
 use Rattle.rule_terms.specs.RuleText as rule_text
 use Rattle.report.specs.Fault.{Cause, no_command, unread, unwritten, bad_line, bad_capture, long_file, many_frames, many_rules, many_findings, no_memory, not_legal}
 use Rattle.command_words.specs.declared.command.Settings.{Settings}
+use Rattle.serial_terms.specs.Entries.{Entry}
+use Rattle.serial_terms.specs.declared.call.Done.{Done}
+use Rattle.tdsl_tool.specs.Handed.{IsHistoryOf, IsHistoryUnder}
 use Rattle.tdsl_tool.specs.Verdict.{max_file, IsAnswerOf, Verdict, stops, IsVerdictUnder, rules_are, AreRules, capture_refused, file_of}
-use Rattle.tdsl_tool.specs.Run.{Source, HasFailed, Reading, IfRulesTold, ComesTo, StopsReading, StopsAtRules, StopsAtCapture, StopsUnder}
+use Rattle.tdsl_tool.specs.Run.{Source, HasFailed, Reading, IfRulesTold, IfBothTold, ComesTo, StopsReading, StopsAtRules, StopsAtCapture, StopsUnder}
 
 -- a capture file whose answer is a refusal comes to it
 pub refused_under : (settings : Settings) (rules : List Rule) (name bytes : List ℕ) (told : Option Answer) (answer : Answer) (cause : Cause) → told ≡ Some answer → file_of answer ≡ capture_refused cause → length bytes ≤ max_file → IfSome told (IsAnswerOf bytes) → IsVerdictUnder settings rules name bytes (stops cause)
@@ -60,6 +63,11 @@ module _ (of : Reading) (rules : List Rule) (are : IfRulesTold of (λ text. AreR
     -- of bytes that are those of the file
     pub comes_to_of : (verdict : Verdict) → IsVerdictUnder of.settings rules of.capture.name bytes verdict → ComesTo of verdict
     comes_to_of verdict under = comes_to verdict (λ told is. subst (λ (b : List ℕ). IsVerdictUnder of.settings rules of.capture.name b verdict) (whole told is) under)
+
+    -- the records of workers over them are those of a run over the two files
+    pub hands_out : (handed : Option (List (Entry Done))) → IsSomeAnd handed (IsHistoryOf of.settings rules bytes) → IsSomeAnd handed (λ records. IfBothTold of (λ text told. IsHistoryUnder of.settings text told records))
+    hands_out None is = absurd is
+    hands_out (Some records) is = λ text told file told'. (rules, are text told, subst (λ (b : List ℕ). IsHistoryOf of.settings rules b records) (whole file told') is)
 
     -- an inspection that stops is a run that stops
     pub stops_at : (cause : Cause) → StopsUnder of.settings rules of.capture.name bytes cause → StopsAtCapture of cause

@@ -1,8 +1,8 @@
 pub mod Inspection
-pub mod Members
 pub mod Verdict
 pub mod Found
 pub mod Run
 pub mod Audit
 pub mod Commands
 pub mod Making
+pub mod Handed

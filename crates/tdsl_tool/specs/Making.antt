@@ -8,15 +8,19 @@ use Rattle.command_words.specs.declared.command.Settings.{Settings}
 use Rattle.tdsl_tool.specs.Inspection.{summary_of}
 use Rattle.tdsl_tool.specs.Run.{Run, IsFaulty}
 
--- the settings of a trial
-abbrev pub trial_settings : Settings
-trial_settings = record { findings = 1048576; window = 30 }
+-- in seconds
+abbrev pub trial_window : ℕ
+trial_window = 30
+
+-- the settings of a trial by so many workers
+abbrev pub trial_settings : ℕ → Settings
+trial_settings workers = record { findings = 1048576; window = trial_window; workers = workers }
 
 -- the text is the summary of the capture that is generated from a seed with so many frames, under the rules of a trial
 abbrev pub IsSummary : ℕ → ℕ → List ℕ → Type 0
 IsSummary seed frames text =
     (contents : Contents) × IsReadAs seed frames contents
-    × (text ≡ summary_of seed frames trial_list (generated_capture seed frames) trial_settings.window contents)
+    × (text ≡ summary_of seed frames trial_list (generated_capture seed frames) trial_window contents)
 
 -- what holds of the run of a command that reads no file beside
 pub record ReadsNothing (run : Run) : Type 0 where

@@ -1,12 +1,14 @@
 -- How a run of the program ends, and what it leaves.
-use Rattle.std.specs.Prelude.{◌≡◌, ◌≢◌, ◌⊎◌, ℕ, ◌<◌, List, length, Option, Result, Ok, Err, Vec}
-use Rattle.std.specs.declared.alloc.Global.{Global}
+use Rattle.std.specs.Prelude.{◌≡◌, ◌≢◌, ◌⊎◌, ℕ, ◌<◌, List, length, Option, Result, Ok, Err}
 use Rattle.byte_ends.specs.Told.{Rose, IfTold, Grows, GrowsByPrefix}
 use Rattle.rule_terms.specs.Rule.{Rule}
 use Rattle.command_words.specs.Words.{Names}
 use Rattle.command_words.specs.declared.command.Settings.{Settings}
 use Rattle.report.specs.declared.fault.Fault.{Fault}
 use Rattle.report.specs.Fault.{Cause, unread, unwritten, bad_line, bad_capture, long_file, many_frames, many_rules, many_findings, no_memory, cause_of, status_of, line_of}
+use Rattle.serial_terms.specs.declared.call.Done.{Done}
+use Rattle.serial_terms.specs.Entries.{Entry}
+use Rattle.tdsl_tool.specs.declared.made.Made.{Made}
 use Rattle.tdsl_tool.specs.Verdict.{Verdict, reports, stops, IsVerdict, IsVerdictUnder, max_file, AreRules, HasBadLine, HasManyRules, rules_refused, IsRuleFile, verdict_status}
 
 -- The files and the sinks of a run.
@@ -161,8 +163,8 @@ Tells sink (faulted cause) = TellsLine sink cause
 -- Writing what a command made.
 
 -- what it made: a text, or a fault
-abbrev pub outcome_of : Result (Vec ℕ Global) Fault → Verdict
-outcome_of (Ok text) = reports text.items
+abbrev pub outcome_of : Result Made Fault → Verdict
+outcome_of (Ok made) = reports made.text.items
 outcome_of (Err fault) = stops (cause_of fault)
 
 -- a text was written, or a prefix of it where calls of the sink failed; for a fault nothing was
@@ -189,12 +191,14 @@ EndsSo Is Stops out (faulted cause) = Stops cause × (out.after ≡ out.before)
 
 -- What holds of a run.
 
--- a run of the program: its files, what became of standard output and standard error, and the status
+-- a run of the program: its files, what became of standard output and standard error, the status, and the
+-- records of its workers where they are handed out
 pub record Run : Type 0 where
   pub files : Folder
   pub out : Writing
   pub faults : Writing
   pub status : ℕ
+  pub history : Option (List (Entry Done))
 
 -- what holds of the run of each command, by the texts that it makes and the causes that it stops for
 pub record IsRunOf (Is : List ℕ → Type 0) (Stops : Cause → Type 0) (run : Run) : Type 0 where

@@ -1,9 +1,9 @@
 // Audits of journals, through the top call.
-use crate::run::run_with;
-use crate::tests::Run;
+use crate::tests::{Run, run_quietly};
 use byte_ends::{MemoryFiles, MemorySink};
 use std::alloc::{AllocError, Global};
 use std::test::Fail;
+use std::thread::Threads;
 
 // The run of one task.
 const JOURNAL: &str =
@@ -24,7 +24,13 @@ const HIGH_KEY: &str =
 const TAKEN_TWICE: &str =
     "journal 2\nopen 1 0 1\nt 1 w 0 0: take 0 0\ns 0 a 1 0: take 0 0\ns 1 a 1 0: take 0 0\nend\n";
 
-fn audited(alloc: Global, words: &[&str], journal: &str, failing: u64) -> Result<Run, AllocError> {
+fn audited<R: Threads + Sync>(
+    rt: &R,
+    alloc: Global,
+    words: &[&str],
+    journal: &str,
+    failing: u64,
+) -> Result<Run, AllocError> {
     let mut list = Vec::new(alloc);
     for word in words {
         list.push(String::from_str(alloc, *word)?)?;
@@ -39,9 +45,9 @@ fn audited(alloc: Global, words: &[&str], journal: &str, failing: u64) -> Result
     failing_calls.push(failing)?;
     let mut out = MemorySink::new(alloc, 1000, failing_calls)?;
     let mut faults = MemorySink::new(alloc, 1000, Vec::new(alloc))?;
-    let status = run_with(&(), alloc, &list, &mut files, &mut out, &mut faults);
+    let ended = run_quietly(rt, alloc, &list, &mut files, &mut out, &mut faults)?;
     Ok(Run {
-        status,
+        status: ended.status,
         out: out.written().to_vec(alloc)?,
         faults: faults.written().to_vec(alloc)?,
     })
@@ -67,7 +73,7 @@ fn a_journal_is_judged(rt: HostRuntime) -> Result<(), Fail> {
         (&["audit", "j"], JOURNAL, 1, 3, "", "write fault\n"),
     ];
     for (words, journal, failing, status, out, faults) in cases {
-        let got = audited(rt.alloc(), words, journal, failing)?;
+        let got = audited(&rt, rt.alloc(), words, journal, failing)?;
         assert_eq!(rt; got.status, status);
         assert_eq!(rt; got.out.as_slice(), out.as_bytes());
         assert_eq!(rt; got.faults.as_slice(), faults.as_bytes());

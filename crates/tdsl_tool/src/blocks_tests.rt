@@ -64,7 +64,7 @@ fn reports_are_those_of_the_packets(rt: HostRuntime) -> Result<(), Fail> {
     let simple = [SECTION, ETHERNET, SIMPLE, frame, SIMPLE_END];
     for parts in [enhanced, big, simple] {
         let capture = file_of(alloc, &parts)?;
-        let got = inspected(alloc, &COMMAND, GREET, &capture, 0)?;
+        let got = inspected(&rt, alloc, &COMMAND, GREET, &capture, 0)?;
         assert_eq!(rt; got.status, 0);
         assert_eq!(rt;
             got.out.as_slice(),
@@ -80,7 +80,7 @@ fn reports_are_those_of_the_packets(rt: HostRuntime) -> Result<(), Fail> {
     let whole = file_of(alloc, &enhanced)?;
     assert_eq!(rt; whole.len(), 128);
     let torn = &whole[..whole.len().saturating_sub(5)];
-    let got = inspected(alloc, &COMMAND, GREET, torn, 0)?;
+    let got = inspected(&rt, alloc, &COMMAND, GREET, torn, 0)?;
     assert_eq!(rt; got.status, 0);
     assert_eq!(rt;
         got.out.as_slice(),
@@ -115,7 +115,7 @@ fn refusals_are_told_at_their_places(rt: HostRuntime) -> Result<(), Fail> {
     ];
     for (parts, line) in cases {
         let capture = file_of(alloc, parts)?;
-        let got = inspected(alloc, &COMMAND, GREET, &capture, 0)?;
+        let got = inspected(&rt, alloc, &COMMAND, GREET, &capture, 0)?;
         assert_eq!(rt; got.status, 5);
         assert_eq!(rt; got.out.as_slice(), b"".as_slice());
         assert_eq!(rt; got.faults.as_slice(), line.as_bytes());
@@ -130,7 +130,7 @@ fn a_further_packet_behind_262144_is_a_limit(rt: HostRuntime) -> Result<(), Fail
     for _ in 0..262_145 {
         capture.extend_from_slice(FIRST)?;
     }
-    let got = inspected(alloc, &COMMAND, GREET, &capture, 0)?;
+    let got = inspected(&rt, alloc, &COMMAND, GREET, &capture, 0)?;
     assert_eq!(rt; got.status, 6);
     assert_eq!(rt; got.faults.as_slice(), b"limit: frames\n".as_slice());
     Ok(())

@@ -2,8 +2,7 @@
 ghost use Rattle.byte_ends.specs.InMemory.{bytes_of};
 ghost use Rattle.std.specs.Prelude.{◌≤◌, ◌^◌, Some};
 
-use crate::run::run_with;
-use crate::tests::{COMMAND, GREET, HEADER, HELLO, USAGE, report};
+use crate::tests::{COMMAND, GREET, HEADER, HELLO, USAGE, report, run_quietly};
 use byte_ends::{Failed, Files, MemoryFiles, MemorySink, ReadFault, Sink};
 use std::alloc::{AllocError, Global};
 use std::test::Fail;
@@ -87,10 +86,10 @@ fn each_failed_read_names_its_file(rt: HostRuntime) -> Result<(), Fail> {
         let mut files = files(alloc, failing)?;
         let mut out = sink(alloc, 0)?;
         let mut faults = sink(alloc, 0)?;
-        let status = run_with(&(), alloc, &words, &mut files, &mut out, &mut faults);
-        assert_eq!(rt; status, wanted);
+        let ended = run_quietly(&rt, alloc, &words, &mut files, &mut out, &mut faults)?;
+        assert_eq!(rt; ended.status, wanted);
         assert_eq!(rt; faults.written(), line.as_bytes());
-        assert!(rt; status == 0 || out.written().is_empty());
+        assert!(rt; ended.status == 0 || out.written().is_empty());
     }
     Ok(())
 }
@@ -106,14 +105,14 @@ fn each_failed_write_leaves_a_beginning(rt: HostRuntime) -> Result<(), Fail> {
             sink: sink(alloc, failing)?,
         };
         let mut faults = sink(alloc, 0)?;
-        let status = run_with(&(), alloc, &words, &mut files, &mut out, &mut faults);
+        let ended = run_quietly(&rt, alloc, &words, &mut files, &mut out, &mut faults)?;
         let before = (failing - 1) as usize;
         assert_eq!(rt; out.sink.written(), &whole[..before.min(whole.len())]);
         if before < whole.len() {
-            assert_eq!(rt; status, 3);
+            assert_eq!(rt; ended.status, 3);
             assert_eq!(rt; faults.written(), b"write fault\n".as_slice());
         } else {
-            assert_eq!(rt; status, 0);
+            assert_eq!(rt; ended.status, 0);
             assert_eq!(rt; faults.written(), b"".as_slice());
         }
     }
@@ -139,8 +138,8 @@ fn a_line_that_can_not_be_written_changes_no_status(rt: HostRuntime) -> Result<(
             let mut faults = SlowSink {
                 sink: sink(alloc, failing as u64)?,
             };
-            let status = run_with(&(), alloc, &words, &mut files, &mut out, &mut faults);
-            assert_eq!(rt; status, 1);
+            let ended = run_quietly(&rt, alloc, &words, &mut files, &mut out, &mut faults)?;
+            assert_eq!(rt; ended.status, 1);
             assert!(rt; out.written().is_empty());
             assert_eq!(rt; faults.sink.written(), &USAGE.as_bytes()[..failing - 1]);
         }
@@ -159,8 +158,8 @@ fn files_and_sinks_may_take_one_byte_a_call(rt: HostRuntime) -> Result<(), Fail>
         sink: sink(alloc, 0)?,
     };
     let mut faults = sink(alloc, 0)?;
-    let status = run_with(&(), alloc, &words, &mut files, &mut out, &mut faults);
-    assert_eq!(rt; status, 0);
+    let ended = run_quietly(&rt, alloc, &words, &mut files, &mut out, &mut faults)?;
+    assert_eq!(rt; ended.status, 0);
     assert_eq!(rt; out.sink.written(), usual(alloc)?.as_slice());
     assert_eq!(rt; faults.written(), b"".as_slice());
     Ok(())

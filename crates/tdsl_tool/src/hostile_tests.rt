@@ -4,6 +4,7 @@ use crate::tests::{
 };
 use std::alloc::{AllocError, Global};
 use std::test::Fail;
+use std::thread::Threads;
 
 // A fragment with the second and the fraction of its time.
 type Sent = (u32, u32, Fragment);
@@ -32,14 +33,15 @@ const LAST: Fragment = Fragment {
 
 // Whether an inspection of fragments that were sent so gives the report with these counts and finding
 // lines.
-fn gives(
+fn gives<R: Threads + Sync>(
+    rt: &R,
     alloc: Global,
     words: &[&str],
     sent: &[Sent],
     counts: [u32; 11],
     findings: &str,
 ) -> Result<bool, AllocError> {
-    let got = inspected(alloc, words, SEAM, &capture_of(alloc, sent)?, 0)?;
+    let got = inspected(rt, alloc, words, SEAM, &capture_of(alloc, sent)?, 0)?;
     Ok(got.status == 0 && got.out.as_slice() == report(alloc, counts, findings)?.as_slice())
 }
 
@@ -49,10 +51,11 @@ fn fragments_of_one_datagram_come_within_the_window(rt: HostRuntime) -> Result<(
     let one = [2, 0, 0, 0, 0, 2, 0, 0, 1, 0, 1];
     let found = "finding 0 seam 6\n";
     let in_time = [(0, 0, FIRST), (30, 0, LAST)];
-    let within = gives(alloc, &COMMAND, &in_time, one, found)?;
+    let within = gives(&rt, alloc, &COMMAND, &in_time, one, found)?;
     assert!(rt; within, "as late as the window allows");
     let late = [(0, 0, FIRST), (30, 1, LAST)];
     let parted = gives(
+        &rt,
         alloc,
         &COMMAND,
         &late,
@@ -61,10 +64,11 @@ fn fragments_of_one_datagram_come_within_the_window(rt: HostRuntime) -> Result<(
     )?;
     assert!(rt; parted, "a microsecond later");
     let longer = ["inspect", "--window", "31", "r", "c"];
-    let joined = gives(alloc, &longer, &late, one, found)?;
+    let joined = gives(&rt, alloc, &longer, &late, one, found)?;
     assert!(rt; joined, "a longer window");
     let again = [(0, 0, FIRST), (40, 0, FIRST), (41, 0, LAST)];
     let second = gives(
+        &rt,
         alloc,
         &COMMAND,
         &again,
@@ -85,7 +89,7 @@ fn many_clashing_fragments_are_set_aside(rt: HostRuntime) -> Result<(), Fail> {
         let at = (number % 8192) as u16 * 8;
         add_fragment(&mut capture, 0, 0, piece(1, at, true, b"aaaaaaaa"))?;
     }
-    let got = inspected(alloc, &COMMAND, END, &capture, 0)?;
+    let got = inspected(&rt, alloc, &COMMAND, END, &capture, 0)?;
     let want = report(alloc, [262_144, 0, 96, 0, 0, 8189, 253_859, 0, 0, 1, 0], "")?;
     assert_eq!(rt; got.status, 0);
     assert_eq!(rt; got.out.as_slice(), want.as_slice());
@@ -100,7 +104,7 @@ fn the_longest_datagram_is_put_together(rt: HostRuntime) -> Result<(), Fail> {
     for number in 0u16..8188 {
         add_fragment(&mut capture, 0, 0, piece(1, number * 8, true, b"aaaaaaaa"))?;
     }
-    let got = inspected(alloc, &COMMAND, END, &capture, 0)?;
+    let got = inspected(&rt, alloc, &COMMAND, END, &capture, 0)?;
     let want = report(
         alloc,
         [8189, 0, 0, 0, 0, 8189, 0, 0, 1, 0, 1],
@@ -125,14 +129,14 @@ fn lengths_that_lie_are_told(rt: HostRuntime) -> Result<(), Fail> {
     record[9] = 0xff;
     record[10] = 0xff;
     record[11] = 0xff;
-    let got = inspected(alloc, &COMMAND, END, &repeated(alloc, &record, 1)?, 0)?;
+    let got = inspected(&rt, alloc, &COMMAND, END, &repeated(alloc, &record, 1)?, 0)?;
     assert_eq!(rt; got.status, 5);
     assert_eq!(rt;
         got.faults.as_slice(),
         b"bad capture: record at 24\n".as_slice()
     );
     let cut = one_frame(alloc, 1, 40, 74, ALL_HEADER, &[0; 6])?;
-    let got = inspected(alloc, &COMMAND, END, &cut, 0)?;
+    let got = inspected(&rt, alloc, &COMMAND, END, &cut, 0)?;
     let want = report(alloc, [1, 0, 0, 1, 0, 0, 0, 0, 0, 0, 0], "")?;
     assert_eq!(rt; got.status, 0);
     assert_eq!(rt; got.out.as_slice(), want.as_slice());
@@ -150,7 +154,7 @@ fn rules_past_the_limits_are_bad_lines(rt: HostRuntime) -> Result<(), Fail> {
         b"rule a proto udp dport 65536 has \"a\"",
     ];
     for line in lines {
-        let got = inspected(alloc, &COMMAND, line, &HEADER, 0)?;
+        let got = inspected(&rt, alloc, &COMMAND, line, &HEADER, 0)?;
         assert_eq!(rt; got.status, 4);
         assert_eq!(rt; got.faults.as_slice(), b"bad rules: line 1\n".as_slice());
     }

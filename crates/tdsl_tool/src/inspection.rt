@@ -1,24 +1,28 @@
 // What rules find in a capture.
-ghost use Rattle.std.specs.Prelude.{◌≡◌, ℕ, ◌≤◌, List, length, IfOk, IfErr, IfSome};
+ghost use Rattle.std.specs.Prelude.{◌≡◌, ℕ, ◌≤◌, List, length, vec_len, Some, IfOk, IfErr, IfSome, IsSomeAnd};
 ghost use Rattle.capture_terms.specs.Capture.{captured, contents_of};
 ghost use Rattle.capture_terms.specs.Plan.{IsClassifiable};
 ghost use Rattle.pcap_frames.specs.Answer.{refusal_of};
 ghost use Rattle.pcapng_blocks.specs.Answer as pcapng;
 ghost use Rattle.rule_terms.specs.Rule.{Rule};
+ghost use Rattle.command_words.specs.Limits.{IsWithinLimits};
 ghost use Rattle.command_words.specs.declared.command.Settings as declared;
 ghost use Rattle.report.specs.Fault.{cause_of};
 ghost use Rattle.tdsl_tool.specs.Found.{IsInspection};
+ghost use Rattle.tdsl_tool.specs.Handed.{IsHistoryOf, records_of};
 ghost use Rattle.tdsl_tool.specs.Run.{StopsUnder};
 ghost use Rattle.tdsl_tool.specs.Verdict.{IsAnswerOf, IsVerdictUnder, reports, max_file};
 
-use crate::findings::{FindingsEnd, Found, find_all};
+use crate::made::Made;
 use command_words::Settings;
+use inspect_workers::{Gate, InspectEnd, Outcome, inspect};
 use ipv4_fragments::{Plan, classify};
 use pcap_frames::{Capture, CaptureEnd, frames};
 use pcapng_blocks::{BlocksEnd, blocks, is_pcapng};
 use report::{CaptureFault, Fault, report_text};
 use rule_matcher::Rules;
 use std::alloc::Global;
+use std::thread::Threads;
 
 // Why a file that is no capture gives no report.
 fn refused<'a>(end: CaptureEnd) -> Fault<'a>
@@ -73,17 +77,35 @@ fn capture_in<'a>(alloc: Global, bytes: &[u8]) -> Result<Capture, Fault<'a>>
 pub struct Inspection {
     pub capture: Capture,
     pub plan: Plan,
-    pub found: Found,
+    pub outcome: Outcome,
 }
 
-/// Inspects a capture file under rules, with these settings.
-pub fn inspection_of<'a>(
+impl Inspection {
+    /// A text that tells of it, with the records of its workers.
+    pub fn told_by(self, text: Vec<u8>) -> Made
+        ensures text { result.text ≡ text }
+        ensures history { result.history ≡ Some self.outcome.history }
+    {
+        let outcome = self.outcome;
+        Made {
+            text,
+            history: Some(outcome.history),
+        }
+    }
+}
+
+/// Inspects a capture file under rules, with these settings, by workers that have these gates.
+pub fn inspection_of<'a, Rt: Threads + Sync, G: Gate + Send + Drop>(
+    rt: &Rt,
     alloc: Global,
     rules: &Rules,
     bytes: &[u8],
     settings: Settings,
+    gates: Vec<G>,
 ) -> Result<Inspection, Fault<'a>>
-    requires { length bytes.now ≤ max_file }
+    requires short { length bytes.now ≤ max_file }
+    requires limits { IsWithinLimits settings }
+    requires gates { settings.workers ≤ vec_len gates }
     ensures found { IfOk result (IsInspection settings rules.now bytes.now) }
     ensures stops { IfErr result (λ fault. (name : List ℕ) → StopsUnder settings rules.now name bytes.now (cause_of fault)) }
 {
@@ -94,29 +116,43 @@ pub fn inspection_of<'a>(
     let Ok(plan) = classify(alloc, &capture, bytes, settings.window) else {
         return Err(Fault::Memory);
     };
-    match find_all(alloc, &plan, bytes, rules, settings.findings) {
-        Ok(found) => Ok(Inspection {
+    match inspect(
+        rt,
+        alloc,
+        &plan,
+        bytes,
+        rules,
+        settings.workers,
+        settings.findings,
+        gates,
+    ) {
+        Ok(outcome) => Ok(Inspection {
             capture,
             plan,
-            found,
+            outcome,
         }),
-        Err(FindingsEnd::TooMany) => Err(Fault::LimitFindings),
-        Err(FindingsEnd::Memory) => Err(Fault::Memory),
+        Err(InspectEnd::LogFull { .. }) => Err(Fault::LimitFindings),
+        Err(InspectEnd::Memory) => Err(Fault::Memory),
     }
 }
 
-/// The report of a capture file under rules, with these settings.
-pub fn report_under<'a>(
+/// The report of a capture file under rules, with these settings, by workers that have these gates.
+pub fn report_under<'a, Rt: Threads + Sync, G: Gate + Send + Drop>(
+    rt: &Rt,
     alloc: Global,
     rules: &Rules,
     bytes: &[u8],
     settings: Settings,
-) -> Result<Vec<u8>, Fault<'a>>
-    requires { length bytes.now ≤ max_file }
-    ensures report { IfOk result (λ text. (name : List ℕ) → IsVerdictUnder settings rules.now name bytes.now (reports text.items)) }
+    gates: Vec<G>,
+) -> Result<Made, Fault<'a>>
+    requires short { length bytes.now ≤ max_file }
+    requires limits { IsWithinLimits settings }
+    requires gates { settings.workers ≤ vec_len gates }
+    ensures report { IfOk result (λ made. (name : List ℕ) → IsVerdictUnder settings rules.now name bytes.now (reports made.text.items)) }
+    ensures history { IfOk result (λ made. IsSomeAnd (records_of made) (IsHistoryOf settings rules.now bytes.now)) }
     ensures stops { IfErr result (λ fault. (name : List ℕ) → StopsUnder settings rules.now name bytes.now (cause_of fault)) }
 {
-    let it = match inspection_of(alloc, rules, bytes, settings) {
+    let it = match inspection_of(rt, alloc, rules, bytes, settings, gates) {
         Ok(it) => it,
         Err(fault) => return Err(fault),
     };
@@ -125,10 +161,10 @@ pub fn report_under<'a>(
         &it.capture,
         &it.plan,
         rules,
-        it.found.incomplete,
-        &it.found.numbers,
+        it.outcome.incomplete,
+        &it.outcome.findings,
     ) {
-        Ok(text) => Ok(text),
+        Ok(text) => Ok(it.told_by(text)),
         Err(_) => Err(Fault::Memory),
     }
 }

@@ -1,7 +1,7 @@
-//! Inspects captures of packets: `inspect [--findings N] [--window N] RULES CAPTURE` writes a report of
-//! what the rules find. Judges journals: `audit JOURNAL` tells whether a legal run may have written it.
-//! Makes captures: `make SEED FRAMES` writes one that is generated from a seed, and `trial SEED FRAMES`
-//! inspects one and writes the summary.
+//! Inspects captures of packets: `inspect [--workers N] [--findings N] [--window N] RULES CAPTURE` writes a
+//! report of what the rules find. Judges journals: `audit JOURNAL` tells whether a legal run may have
+//! written it. Makes captures: `make SEED FRAMES` writes one that is generated from a seed, and
+//! `trial [--workers N] SEED FRAMES` inspects one and writes the summary.
 #![tactic(auto)]
 
 #[cfg(test)]
@@ -10,14 +10,13 @@ mod audit_tests;
 mod blocks_tests;
 #[cfg(test)]
 mod failing_tests;
-mod findings;
 #[cfg(test)]
 mod hostile_tests;
 mod inspection;
 mod laws;
+mod made;
 #[cfg(test)]
 mod making_tests;
-mod members;
 mod outputs;
 mod run;
 #[cfg(test)]
@@ -25,7 +24,7 @@ mod tests;
 
 use byte_ends::{RealFiles, RealSink};
 use report::Fault;
-use run::{run_with, tell};
+use run::{quiet_gates, run_with, tell};
 use std::alloc::Global;
 use std::io::ErrorKind;
 use std::process::ExitCode;
@@ -55,6 +54,10 @@ fn main(rt: HostRuntime) -> ExitCode {
             _ => Vec::new(alloc),
         },
     };
+    let Ok(gates) = quiet_gates(alloc) else {
+        return ExitCode::from(tell(&mut faults, &Fault::Memory));
+    };
     let mut files = RealFiles::new(alloc, &rt);
-    ExitCode::from(run_with(&rt, alloc, &words, &mut files, &mut out, &mut faults))
+    let ended = run_with(&rt, alloc, &words, &mut files, &mut out, &mut faults, gates);
+    ExitCode::from(ended.status)
 }

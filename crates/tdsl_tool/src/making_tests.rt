@@ -1,9 +1,9 @@
 // Generated captures and trials of them, through the top call.
-use crate::run::run_with;
-use crate::tests::{HEADER, report};
+use crate::tests::{HEADER, report, run_quietly};
 use byte_ends::{MemoryFiles, MemorySink};
 use std::alloc::{AllocError, Global};
 use std::test::Fail;
+use std::thread::Threads;
 
 #[derive(Drop)]
 struct Outcome {
@@ -12,23 +12,22 @@ struct Outcome {
     faults: MemorySink,
 }
 
-fn made(
+fn made<R: Threads + Sync>(
+    rt: &R,
     alloc: Global,
-    command: &str,
-    seed: &str,
-    frames: &str,
+    words: &[&str],
     room: usize,
 ) -> Result<Outcome, AllocError> {
-    let mut words = Vec::new(alloc);
-    for word in [command, seed, frames] {
-        words.push(String::from_str(alloc, word)?)?;
+    let mut list = Vec::new(alloc);
+    for word in words {
+        list.push(String::from_str(alloc, *word)?)?;
     }
     let mut files = MemoryFiles::new(Vec::new(alloc), Vec::new(alloc));
     let mut out = MemorySink::new(alloc, room, Vec::new(alloc))?;
     let mut faults = MemorySink::new(alloc, 1000, Vec::new(alloc))?;
-    let status = run_with(&(), alloc, &words, &mut files, &mut out, &mut faults);
+    let ended = run_quietly(rt, alloc, &list, &mut files, &mut out, &mut faults)?;
     Ok(Outcome {
-        status,
+        status: ended.status,
         out,
         faults,
     })
@@ -37,14 +36,14 @@ fn made(
 #[test]
 fn a_capture_is_made_from_a_seed(rt: HostRuntime) -> Result<(), Fail> {
     let alloc = rt.alloc();
-    let none = made(alloc, "make", "9", "0", 1000)?;
+    let none = made(&rt, alloc, &["make", "9", "0"], 1000)?;
     assert_eq!(rt; none.status, 0);
     assert_eq!(rt; none.out.written(), HEADER.as_slice());
     let mut want = HEADER.to_vec(alloc)?;
     want.extend_from_slice(b"\0\0\0\0\0\0\0\0\x3c\0\0\0\x3c\0\0\0")?;
     want.extend_from_slice(b"\x02\0\0\0\0\x02\x02\0\0\0\0\x01\x08\x06")?;
     want.extend_from_slice(&[0; 46])?;
-    let one = made(alloc, "make", "2", "1", 1000)?;
+    let one = made(&rt, alloc, &["make", "2", "1"], 1000)?;
     assert_eq!(rt; one.status, 0);
     assert_eq!(rt; one.out.written(), want.as_slice());
     assert_eq!(rt; one.faults.written(), b"".as_slice());
@@ -66,7 +65,7 @@ fn a_trial_is_summed_up(rt: HostRuntime) -> Result<(), Fail> {
         ),
     ];
     for (seed, frames, counts, sum) in cases {
-        let tried = made(alloc, "trial", seed, frames, 1000)?;
+        let tried = made(&rt, alloc, &["trial", seed, frames], 1000)?;
         let mut want = format!(in alloc; "trial {seed} {frames}\n")?
             .as_bytes()
             .to_vec(alloc)?;
@@ -81,7 +80,7 @@ fn a_trial_is_summed_up(rt: HostRuntime) -> Result<(), Fail> {
 #[test]
 fn a_prefix_is_left_where_writing_fails(rt: HostRuntime) -> Result<(), Fail> {
     for (command, prefix) in [("make", b"\xd4\xc3\xb2\xa1"), ("trial", b"tria")] {
-        let cut = made(rt.alloc(), command, "9", "0", 4)?;
+        let cut = made(&rt, rt.alloc(), &[command, "9", "0"], 4)?;
         assert_eq!(rt; cut.status, 3);
         assert_eq!(rt; cut.out.written(), prefix.as_slice());
         assert_eq!(rt; cut.faults.written(), b"write fault\n".as_slice());

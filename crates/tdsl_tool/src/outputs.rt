@@ -1,24 +1,29 @@
 // What each command makes, before any of it is written.
-ghost use Rattle.std.specs.Prelude.{◌≡◌, ℕ, ◌≤◌, List, length, IfOk, IfErr};
+ghost use Rattle.std.specs.Prelude.{◌≡◌, ℕ, ◌≤◌, List, length, vec_len, IfOk, IfErr, IsSomeAnd, None};
 ghost use Rattle.byte_ends.specs.Told.{IfTold};
 ghost use Rattle.capture_generator.specs.Packets.{generated_capture};
-ghost use Rattle.command_words.specs.Words.{names_of, asked_of};
+ghost use Rattle.command_words.specs.Limits.{AreWorkers, IsWithinLimits, IsWithin};
+ghost use Rattle.command_words.specs.Words.{names_of, inspect, asked_of};
 ghost use Rattle.report.specs.Fault.{cause_of, no_memory};
 ghost use Rattle.tdsl_tool.specs.Verdict.{reports, max_file, AreRules};
 ghost use Rattle.tdsl_tool.specs.Run.{folder, source, reading, ComesTo, StopsReading, StopsInRules, StopsAtRules, StopsAt};
 ghost use Rattle.tdsl_tool.specs.Audit.{IsAuditOf, StopsAtJournal};
 ghost use Rattle.tdsl_tool.specs.Making.{IsSummary};
-ghost use Rattle.tdsl_tool.specs.Commands.{IsOutput, IsStop, IsAlone};
+ghost use Rattle.tdsl_tool.specs.Commands.{IsOutput, IsStop, IsAlone, HandsOut};
+ghost use Rattle.tdsl_tool.specs.Handed.{IsHistoryOfTrial, records_of, without_workers};
 
 use crate::inspection::{inspection_of, report_under};
 use crate::laws::one_verdict;
+use crate::made::Made;
 use byte_ends::{Files, ReadEnd, read_all};
 use capture_generator::{generated, generated_is_read_law, trial_rules, trial_rules_law};
 use command_words::{Command, FileNames, Making, Settings};
 use history_audit::{Verdict, audit};
+use inspect_workers::Gate;
 use report::{Fault, audit_text, summary_text};
 use rule_matcher::{Rules, RulesEnd, rules};
 use std::alloc::Global;
+use std::thread::Threads;
 
 /// The most bytes that a file may have: 64 MiB.
 const MAX_FILE: u64 = 67_108_864;
@@ -74,13 +79,18 @@ fn rules_from<'a, F: Files>(alloc: Global, files: &mut F, name: &'a str) -> Resu
 }
 
 // The report of an inspection.
-fn report_for<'a, F: Files>(
+fn report_for<'a, Rt: Threads + Sync, F: Files, G: Gate + Send + Drop>(
+    rt: &Rt,
     alloc: Global,
     files: &mut F,
     names: FileNames<'a>,
     settings: Settings,
-) -> Result<Vec<u8>, Fault<'a>>
-    ensures report { IfOk result (λ text. ComesTo (reading (folder (F.content files.old) (F.faults files.old) (F.faults files.new)) (names_of names.entry) settings) (reports text.items)) }
+    gates: Vec<G>,
+) -> Result<Made, Fault<'a>>
+    requires limits { IsWithinLimits settings }
+    requires gates { 16 ≤ vec_len gates }
+    ensures report { IfOk result (λ made. ComesTo (reading (folder (F.content files.old) (F.faults files.old) (F.faults files.new)) (names_of names.entry) settings) (reports made.text.items)) }
+    ensures history { IfOk result (λ made. HandsOut (inspect (names_of names.entry) settings) (folder (F.content files.old) (F.faults files.old) (F.faults files.new)) (records_of made)) }
     ensures stops { IfErr result (λ fault. StopsAt (reading (folder (F.content files.old) (F.faults files.old) (F.faults files.new)) (names_of names.entry) settings) (cause_of fault)) }
     ensures content { (file : List ℕ) → F.content files.new file ≡ F.content files.old file }
     ensures counts { (file : List ℕ) → F.faults files.old file ≤ F.faults files.new file }
@@ -93,7 +103,7 @@ fn report_for<'a, F: Files>(
         Ok(bytes) => bytes,
         Err(fault) => return Err(fault),
     };
-    report_under(alloc, &rules, &bytes, settings)
+    report_under(rt, alloc, &rules, &bytes, settings, gates)
 }
 
 // What is told of a journal.
@@ -134,8 +144,17 @@ fn capture_for<'a>(alloc: Global, making: Making) -> Result<Vec<u8>, Fault<'a>>
 }
 
 // The summary of a trial, whose rules and capture are its own.
-fn summary_for<'a>(alloc: Global, making: Making) -> Result<Vec<u8>, Fault<'a>>
-    ensures summary { IfOk result (λ text. IsSummary making.seed making.frames text.items) }
+fn summary_for<'a, Rt: Threads + Sync, G: Gate + Send + Drop>(
+    rt: &Rt,
+    alloc: Global,
+    making: Making,
+    workers: u32,
+    gates: Vec<G>,
+) -> Result<Made, Fault<'a>>
+    requires workers { AreWorkers workers }
+    requires gates { 16 ≤ vec_len gates }
+    ensures summary { IfOk result (λ made. IsSummary making.seed making.frames made.text.items) }
+    ensures history { IfOk result (λ made. IsSomeAnd (records_of made) (IsHistoryOfTrial workers making.seed making.frames)) }
     ensures stops { IfErr result (λ fault. cause_of fault ≡ no_memory) }
 {
     one_verdict();
@@ -152,8 +171,9 @@ fn summary_for<'a>(alloc: Global, making: Making) -> Result<Vec<u8>, Fault<'a>>
     let settings = Settings {
         findings: TRIAL_FINDINGS,
         window: TRIAL_WINDOW,
+        workers,
     };
-    let it = match inspection_of(alloc, &rules, &bytes, settings) {
+    let it = match inspection_of(rt, alloc, &rules, &bytes, settings, gates) {
         Ok(it) => it,
         Err(fault) => return Err(fault),
     };
@@ -163,21 +183,40 @@ fn summary_for<'a>(alloc: Global, making: Making) -> Result<Vec<u8>, Fault<'a>>
         making.frames,
         &it.capture,
         &it.plan,
-        it.found.incomplete,
-        &it.found.numbers,
+        it.outcome.incomplete,
+        &it.outcome.findings,
     ) {
-        Ok(text) => Ok(text),
+        Ok(text) => Ok(it.told_by(text)),
         Err(_) => Err(Fault::Memory),
     }
 }
 
-/// What a command makes: the text that it is to write, or why there is none.
-pub fn output_of<'a, F: Files>(
+// What a command without workers made.
+fn alone<'a>(made: Result<Vec<u8>, Fault<'a>>) -> Result<Made, Fault<'a>>
+    ensures { result ≡ without_workers made.entry }
+{
+    match made {
+        Ok(text) => Ok(Made {
+            text,
+            history: None,
+        }),
+        Err(fault) => Err(fault),
+    }
+}
+
+/// What a command makes: the text that it is to write, with the records of its workers, which have these
+/// gates, or why there is none.
+pub fn output_of<'a, Rt: Threads + Sync, F: Files, G: Gate + Send + Drop>(
+    rt: &Rt,
     alloc: Global,
     files: &mut F,
     command: Command<'a>,
-) -> Result<Vec<u8>, Fault<'a>>
-    ensures output { IfOk result (λ text. IsOutput (asked_of command.entry) (folder (F.content files.old) (F.faults files.old) (F.faults files.new)) text.items) }
+    gates: Vec<G>,
+) -> Result<Made, Fault<'a>>
+    requires limits { IsWithin (asked_of command) }
+    requires gates { 16 ≤ vec_len gates }
+    ensures output { IfOk result (λ made. IsOutput (asked_of command.entry) (folder (F.content files.old) (F.faults files.old) (F.faults files.new)) made.text.items) }
+    ensures history { IfOk result (λ made. HandsOut (asked_of command.entry) (folder (F.content files.old) (F.faults files.old) (F.faults files.new)) (records_of made)) }
     ensures stops { IfErr result (λ fault. IsStop (asked_of command.entry) (folder (F.content files.old) (F.faults files.old) (F.faults files.new)) (cause_of fault)) }
     ensures alone { IsAlone (asked_of command.entry) → (file : List ℕ) → F.faults files.new file ≡ F.faults files.old file }
     ensures content { (file : List ℕ) → F.content files.new file ≡ F.content files.old file }
@@ -185,9 +224,11 @@ pub fn output_of<'a, F: Files>(
 {
     match command {
         Command::Unknown => Err(Fault::Usage),
-        Command::Inspect { names, settings } => report_for(alloc, files, names, settings),
-        Command::Audit { journal } => answer_for(alloc, files, journal),
-        Command::Make(making) => capture_for(alloc, making),
-        Command::Trial(making) => summary_for(alloc, making),
+        Command::Inspect { names, settings } => {
+            report_for(rt, alloc, files, names, settings, gates)
+        }
+        Command::Audit { journal } => alone(answer_for(alloc, files, journal)),
+        Command::Make(making) => alone(capture_for(alloc, making)),
+        Command::Trial { making, workers } => summary_for(rt, alloc, making, workers, gates),
     }
 }

@@ -1,8 +1,9 @@
 // What the program writes for whole inputs.
-use crate::run::run_with;
-use byte_ends::{MemoryFiles, MemorySink};
+use crate::run::{Ended, quiet_gates, run_with};
+use byte_ends::{Files, MemoryFiles, MemorySink, Sink};
 use std::alloc::{AllocError, Global};
 use std::test::Fail;
+use std::thread::Threads;
 
 pub(crate) const GREET: &[u8] = b"rule greet proto udp dport 53 has \"hello\"";
 
@@ -42,7 +43,21 @@ pub(crate) struct Run {
     pub(crate) faults: Vec<u8>,
 }
 
-pub(crate) fn inspected(
+// Runs the program by workers that nothing holds up.
+pub(crate) fn run_quietly<R: Threads + Sync, F: Files, O: Sink, E: Sink>(
+    rt: &R,
+    alloc: Global,
+    words: &[String],
+    files: &mut F,
+    out: &mut O,
+    faults: &mut E,
+) -> Result<Ended, AllocError> {
+    let gates = quiet_gates(alloc)?;
+    Ok(run_with(rt, alloc, words, files, out, faults, gates))
+}
+
+pub(crate) fn inspected<R: Threads + Sync>(
+    rt: &R,
     alloc: Global,
     words: &[&str],
     rules: &[u8],
@@ -61,9 +76,9 @@ pub(crate) fn inspected(
     failing_calls.push(failing)?;
     let mut out = MemorySink::new(alloc, 1000, failing_calls)?;
     let mut faults = MemorySink::new(alloc, 1000, Vec::new(alloc))?;
-    let status = run_with(&(), alloc, &list, &mut files, &mut out, &mut faults);
+    let ended = run_quietly(rt, alloc, &list, &mut files, &mut out, &mut faults)?;
     Ok(Run {
-        status,
+        status: ended.status,
         out: out.written().to_vec(alloc)?,
         faults: faults.written().to_vec(alloc)?,
     })
@@ -210,7 +225,7 @@ fn reports_are_those_of_the_captures(rt: HostRuntime) -> Result<(), Fail> {
             "finding 0 a 8\nfinding 0 b 10\n",
         ),
     ] {
-        let got = inspected(alloc, words, rules, capture, 0)?;
+        let got = inspected(&rt, alloc, words, rules, capture, 0)?;
         assert_eq!(rt; got.status, 0);
         assert_eq!(rt;
             got.out.as_slice(),
@@ -222,7 +237,8 @@ fn reports_are_those_of_the_captures(rt: HostRuntime) -> Result<(), Fail> {
 }
 
 // Whether the capture of these fragments gives the report with these counts and finding lines.
-fn gives(
+fn gives<R: Threads + Sync>(
+    rt: &R,
     alloc: Global,
     rules: &[u8],
     list: &[Fragment],
@@ -230,7 +246,7 @@ fn gives(
     findings: &str,
 ) -> Result<bool, AllocError> {
     let capture = fragments(alloc, list)?;
-    let got = inspected(alloc, &COMMAND, rules, &capture, 0)?;
+    let got = inspected(rt, alloc, &COMMAND, rules, &capture, 0)?;
     Ok(got.status == 0 && got.out.as_slice() == report(alloc, counts, findings)?.as_slice())
 }
 
@@ -241,6 +257,7 @@ fn fragments_make_datagrams(rt: HostRuntime) -> Result<(), Fail> {
     let last = piece(1, 8, false, b"ijkl");
     let found = "finding 0 seam 6\n";
     let both = gives(
+        &rt,
         alloc,
         SEAM,
         &[last, first],
@@ -255,6 +272,7 @@ fn fragments_make_datagrams(rt: HostRuntime) -> Result<(), Fail> {
         piece(1, 16, false, b"qrst"),
     ];
     let overlap = gives(
+        &rt,
         alloc,
         rules,
         &list,
@@ -263,6 +281,7 @@ fn fragments_make_datagrams(rt: HostRuntime) -> Result<(), Fail> {
     )?;
     assert!(rt; overlap, "the second fragment overlaps the first");
     let twice = gives(
+        &rt,
         alloc,
         SEAM,
         &[first, first, last],
@@ -271,23 +290,51 @@ fn fragments_make_datagrams(rt: HostRuntime) -> Result<(), Fail> {
     )?;
     assert!(rt; twice, "one fragment twice");
     let head = b"rule head proto any has \"abcd\"";
-    let open = gives(alloc, head, &[first], [1, 0, 0, 0, 0, 1, 0, 0, 0, 1, 0], "")?;
+    let open = gives(
+        &rt,
+        alloc,
+        head,
+        &[first],
+        [1, 0, 0, 0, 0, 1, 0, 0, 0, 1, 0],
+        "",
+    )?;
     assert!(rt; open, "the last fragment is missing");
     let list = [
         piece(2, 65512, false, b"abc"),
         piece(3, 65512, false, b"abcd"),
     ];
-    let far = gives(alloc, SEAM, &list, [2, 0, 1, 0, 0, 1, 0, 0, 0, 1, 0], "")?;
+    let far = gives(
+        &rt,
+        alloc,
+        SEAM,
+        &list,
+        [2, 0, 1, 0, 0, 1, 0, 0, 0, 1, 0],
+        "",
+    )?;
     assert!(rt; far, "the greatest end, and one beyond it");
     let list = [
         last,
         piece(1, 16, true, b"abcdefgh"),
         piece(1, 24, false, b"x"),
     ];
-    let behind = gives(alloc, SEAM, &list, [3, 0, 0, 0, 0, 1, 2, 0, 0, 1, 0], "")?;
+    let behind = gives(
+        &rt,
+        alloc,
+        SEAM,
+        &list,
+        [3, 0, 0, 0, 0, 1, 2, 0, 0, 1, 0],
+        "",
+    )?;
     assert!(rt; behind, "fragments behind the last one");
     let list = [piece(1, 0, true, b"abcdefghijkl")];
-    let ragged = gives(alloc, SEAM, &list, [1, 0, 1, 0, 0, 0, 0, 0, 0, 0, 0], "")?;
+    let ragged = gives(
+        &rt,
+        alloc,
+        SEAM,
+        &list,
+        [1, 0, 1, 0, 0, 0, 0, 0, 0, 0, 0],
+        "",
+    )?;
     assert!(rt; ragged, "a length that is no multiple of 8");
     Ok(())
 }
@@ -306,7 +353,7 @@ fn other_words_are_a_fault_of_usage(rt: HostRuntime) -> Result<(), Fail> {
         &[],
     ];
     for words in lists {
-        let got = inspected(alloc, words, GREET, &HEADER, 0)?;
+        let got = inspected(&rt, alloc, words, GREET, &HEADER, 0)?;
         assert_eq!(rt; got.status, 1);
         assert_eq!(rt; got.out.as_slice(), b"".as_slice());
         assert_eq!(rt; got.faults.as_slice(), USAGE.as_bytes());
@@ -389,7 +436,7 @@ fn faults_are_told_with_their_status(rt: HostRuntime) -> Result<(), Fail> {
             "limit: findings\n",
         ),
     ] {
-        let got = inspected(alloc, words, rules, capture, failing)?;
+        let got = inspected(&rt, alloc, words, rules, capture, failing)?;
         assert_eq!(rt; got.status, status, "{line}");
         assert_eq!(rt; got.out.as_slice(), b"".as_slice(), "{line}");
         assert_eq!(rt; got.faults.as_slice(), line.as_bytes(), "{line}");
@@ -407,7 +454,7 @@ fn a_further_rule_behind_1024_is_a_limit(rt: HostRuntime) -> Result<(), Fail> {
         rules.extend_from_slice(digits.as_bytes())?;
         rules.extend_from_slice(b" proto any has \"x\"\n")?;
     }
-    let got = inspected(alloc, COMMAND.as_slice(), &rules, &HEADER, 0)?;
+    let got = inspected(&rt, alloc, COMMAND.as_slice(), &rules, &HEADER, 0)?;
     assert_eq!(rt; got.status, 6);
     assert_eq!(rt; got.faults.as_slice(), b"limit: rules\n".as_slice());
     Ok(())
@@ -431,7 +478,7 @@ fn link_headers_and_byte_orders_are_read(rt: HostRuntime) -> Result<(), Fail> {
         (three_tags.as_slice(), [1, 1, 0, 0, 0, 0, 0, 0, 0, 0, 0], ""),
         (cut.as_slice(), [1, 0, 0, 1, 0, 0, 0, 0, 0, 0, 0], ""),
     ] {
-        let got = inspected(alloc, &COMMAND, GREET, capture, 0)?;
+        let got = inspected(&rt, alloc, &COMMAND, GREET, capture, 0)?;
         assert_eq!(rt; got.status, 0);
         assert_eq!(rt;
             got.out.as_slice(),
@@ -466,7 +513,7 @@ fn nanoseconds_and_cooked_headers_are_read(rt: HostRuntime) -> Result<(), Fail> 
     let cooked_v1 = one_frame(alloc, 113, 49, 49, COOKED_V1, DATAGRAM)?;
     let cooked_v2 = one_frame(alloc, 276, 53, 53, COOKED_V2, DATAGRAM)?;
     for capture in [&nanoseconds, &cooked_v1, &cooked_v2] {
-        let got = inspected(alloc, &COMMAND, GREET, capture, 0)?;
+        let got = inspected(&rt, alloc, &COMMAND, GREET, capture, 0)?;
         assert_eq!(rt; got.status, 0);
         assert_eq!(rt; got.out.as_slice(), want.as_slice());
         assert_eq!(rt; got.faults.as_slice(), b"".as_slice());
@@ -497,7 +544,7 @@ fn limits_are_told_by_their_lines(rt: HostRuntime) -> Result<(), Fail> {
         (too_many_frames.as_slice(), 6, "limit: frames\n"),
         (too_many_findings.as_slice(), 6, "limit: findings\n"),
     ] {
-        let got = inspected(alloc, &COMMAND, GREET, capture, 0)?;
+        let got = inspected(&rt, alloc, &COMMAND, GREET, capture, 0)?;
         assert_eq!(rt; got.status, status, "{line}");
         assert_eq!(rt; got.out.as_slice(), b"".as_slice(), "{line}");
         assert_eq!(rt; got.faults.as_slice(), line.as_bytes(), "{line}");
@@ -574,7 +621,7 @@ fn a_usual_capture_is_reported(rt: HostRuntime) -> Result<(), Fail> {
         add_frame(&mut capture, head, length)?;
     }
     let rules = b"rule dns proto udp dport 53 has \"|07|example|03|com|00|\" from 20";
-    let got = inspected(alloc, &COMMAND, rules, &capture, 0)?;
+    let got = inspected(&rt, alloc, &COMMAND, rules, &capture, 0)?;
     let want = report(
         alloc,
         [8, 2, 0, 0, 3, 3, 0, 0, 4, 0, 1],

@@ -2,9 +2,10 @@ use Rattle.std.proofs.Common.{refl, ◌∙◌, inr, arith}
 use Rattle.std.proofs.lemmas.Result.{IfOk-weaker, IfErr-weaker}
 use Rattle.command_words.specs.Words.{names_of}
 use Rattle.report.specs.Fault.{cause_of}
+use Rattle.tdsl_tool.specs.Handed.{records_of}
 use Rattle.tdsl_tool.specs.Run.{folder, source, reading}
 use Rattle.tdsl_tool.specs.Verdict.{reports}
-use Rattle.tdsl_tool.proofs.Verdicts.{comes_to_of, stops_unread, stops_at}
+use Rattle.tdsl_tool.proofs.Verdicts.{comes_to_of, hands_out, stops_unread, stops_at}
 use Rattle.tdsl_tool.proofs.outputs.report_for.Goals as goal
 
 pub returns-in-Err-bytes_of-clause-stops : goal.returns-in-Err-bytes_of-clause-stops
@@ -25,12 +26,24 @@ returns-clause-report g c =
     let faults = g.F.Files.faults in
     let capture = c.args.names.capture.now in
     IfOk-weaker c.report_under.result _ _
-    (λ text under. comes_to_of
+    (λ made under. comes_to_of
     (reading (folder (content c.args.files.now) (faults c.args.files.now) (faults c.bytes_of.new.files)) (names_of c.args.names) c.args.settings)
     c.in-Ok.rules c.in-Ok.ensures.rules c.deref.result.now
     (λ bytes told. c.deref.ensures.value ∙ c.in-Ok-bytes_of.ensures.whole bytes (c.rules_from.ensures.content capture ∙ told))
-    (reports text.items) (under capture))
+    (reports made.text.items) (under capture))
     c.report_under.ensures.report
+
+pub returns-clause-history : goal.returns-clause-history
+returns-clause-history g c =
+    let content = g.F.Files.content in
+    let faults = g.F.Files.faults in
+    IfOk-weaker c.report_under.result _ _
+    (λ made is. hands_out
+    (reading (folder (content c.args.files.now) (faults c.args.files.now) (faults c.bytes_of.new.files)) (names_of c.args.names) c.args.settings)
+    c.in-Ok.rules c.in-Ok.ensures.rules c.deref.result.now
+    (λ bytes told. c.deref.ensures.value ∙ c.in-Ok-bytes_of.ensures.whole bytes (c.rules_from.ensures.content c.args.names.capture.now ∙ told))
+    (records_of made) is)
+    c.report_under.ensures.history
 
 pub returns-clause-stops : goal.returns-clause-stops
 returns-clause-stops g c =
