@@ -68,13 +68,15 @@ room_of n o q e is = subst (HasRoom n) e is
 
 module _ {G : Type 0} (store : RunStore) where
   -- the seat is left empty, and the pass is this one
-  pub at_seat : (old xs : List (Seat G)) (n k : ℕ) (p q : RunPass) (gate : G) (o : Option RunPass) → o ≡ None → q ≡ p → IsJoining store old n p (set xs k (record { pass = None; gate = gate }))
+  pub at_seat : (old xs : List (Seat G)) (n k : ℕ) (p q : RunPass) (gate : G) (o : Option RunPass) → o ≡ None → q ≡ p
+      → IsJoining store old n p (set xs k (record { pass = None; gate = gate }))
       → IsJoining store old n q (set xs k (record { pass = o; gate = gate }))
   at_seat old xs n k p q gate o none same is =
       subst (λ x. IsJoining store old n q (set xs k (record { pass = x; gate = gate }))) (sym none)
       (subst (λ x. IsJoining store old n x (set xs k (record { pass = None; gate = gate }))) (sym same) is)
 
-  pub first_joined : (old : List (Seat G)) (q : RunPass) (gate : G) (d : Seat G) → 0 < length old → length old ≡ store.table.callers → All (λ s. IfSome s.pass (IsAtRest store)) old
+  pub first_joined : (old : List (Seat G)) (q : RunPass) (gate : G) (d : Seat G) → 0 < length old → length old ≡ store.table.callers
+      → All (λ s. IfSome s.pass (IsAtRest store)) old
       → ((e : Seat G) → HasRoom store.table.callers (get_or old 0 e).pass) → over_seats callers_held old ≡ store.table.callers → (get_or old 0 d).pass ≡ Some q
       → IsJoining store old 1 q (set old 0 (record { pass = None; gate = gate }))
   first_joined old q gate d here count each room callers is = record {
@@ -95,7 +97,8 @@ module _ {G : Type 0} (store : RunStore) where
     pub fits : (q : RunPass) → (get_or xs n d).pass ≡ Some q → callers_held p + callers_held q ≤ p.pass.room
     fits q is = let sum = sum_taken xs n gate here callers_held q d is in let all = so_far.callers in let room = so_far.room in omega (arith, sum, all, room)
 
-    pub one_joined : (q new : RunPass) → (get_or xs n d).pass ≡ Some q → IsPassOfStore store new → IsJoined p q new → IsJoining store old (n + 1) new (set xs n (record { pass = None; gate = gate }))
+    pub one_joined : (q new : RunPass) → (get_or xs n d).pass ≡ Some q → IsPassOfStore store new → IsJoined p q new
+        → IsJoining store old (n + 1) new (set xs n (record { pass = None; gate = gate }))
     one_joined q new is of joined = record {
       count = length-set xs n (record { pass = None; gate = gate }) ∙ so_far.count;
       rest = record { of = of; idle = joined.idle };

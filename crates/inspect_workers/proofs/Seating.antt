@@ -16,7 +16,8 @@ use Rattle.inspect_workers.specs.Works.{most_draws}
 
 -- ---- books
 
-one_more : (k n : ℕ) (es : List (Noted NamedDone)) (e : Noted NamedDone) → total (λ e. is_fill (by_key e.dones)) (records_from (λ (dones : List NamedDone). dones) k n (es ++ e ∷ []))
+one_more : (k n : ℕ) (es : List (Noted NamedDone)) (e : Noted NamedDone)
+    → total (λ e. is_fill (by_key e.dones)) (records_from (λ (dones : List NamedDone). dones) k n (es ++ e ∷ []))
     ≡ total (λ e. is_fill (by_key e.dones)) (records_from (λ (dones : List NamedDone). dones) k n es) + is_fill (calls_of e)
 one_more k n [] e = omega arith
 one_more k n (x ∷ es) e = let more = one_more k (n + 1) es e in omega (arith, more)
@@ -53,7 +54,8 @@ fills_merged (b ∷ bs) cs = let first = fills_inserted b (merge_by book_key bs 
 room_stays : (n : ℕ) (p q : RunPass) → q.pass.room ≡ p.pass.room → n ≤ p.pass.room → n ≤ q.pass.room
 room_stays n p q e low = omega (arith, e, low)
 
-ran : (store : RunStore) (w : Work) (n : ℕ) (p q : RunPass) → IsLeft store most_draws p q → AddsUpTo n (IsOfWorker w) p.pass.books q.pass.books → HasRunAt store (Some p) (Some q)
+ran : (store : RunStore) (w : Work) (n : ℕ) (p q : RunPass) → IsLeft store most_draws p q
+    → AddsUpTo n (IsOfWorker w) p.pass.books q.pass.books → HasRunAt store (Some p) (Some q)
 ran store w n p q left adds = record {
   rest = record { of = left.of; idle = left.idle };
   room = λ k low. room_stays k p q left.room low;

@@ -11,7 +11,8 @@ use Rattle.tx_store.specs.Stores.{IsPassOfStore}
 use Rattle.tx_store.specs.Parting.{IsKeptPart, IsNewPart}
 use Rattle.inspect_workers.specs.declared.seats.Seat.{Seat}
 use Rattle.inspect_workers.specs.Noted.{fills_in}
-use Rattle.inspect_workers.specs.Seats.{RunPass, RunStore, IsWholeAtRest, IsAtRest, IsReady, AreFree, AreSharedOut, HasRoom, HasRunAt, at_pass, over_seats, callers_held, draws_left, fills_made}
+use Rattle.inspect_workers.specs.Seats.{RunPass, RunStore, IsWholeAtRest, IsAtRest, IsReady, AreFree, AreSharedOut, HasRoom, HasRunAt}
+use Rattle.inspect_workers.specs.Seats.{at_pass, over_seats, callers_held, draws_left, fills_made}
 use Rattle.inspect_workers.proofs.Seating.{fills_parted}
 
 -- ---- a pass that is split
@@ -73,7 +74,8 @@ module _ {G : Type 0} where
   none_ready P xs free = λ i d here. subst (λ o. IfSome o P) (sym (free i d here)) tt
 
   module _ (xs : List (Seat G)) (k : ℕ) (p : RunPass) (gate : G) (here : k < length xs) where
-    sum_seated : (f : RunPass → ℕ) → ((d : Seat G) → (get_or xs k d).pass ≡ None) → over_seats f (set xs k (record { pass = Some p; gate = gate })) ≡ over_seats f xs + f p
+    sum_seated : (f : RunPass → ℕ) → ((d : Seat G) → (get_or xs k d).pass ≡ None)
+        → over_seats f (set xs k (record { pass = Some p; gate = gate })) ≡ over_seats f xs + f p
     sum_seated f free =
         let d : Seat G = record { pass = Some p; gate = gate } in
         let sum = sum_by-set (λ s. at_pass f s.pass) xs k d d here in
@@ -83,7 +85,8 @@ module _ {G : Type 0} where
         → over_seats f (set xs k (record { pass = Some p; gate = gate })) + f new ≡ all
     sum_kept f old new all free parts so_far = let sum = sum_seated f free in omega (arith, sum, parts, so_far)
 
-    pub sum_all : (f : RunPass → ℕ) (all : ℕ) → ((d : Seat G) → (get_or xs k d).pass ≡ None) → over_seats f xs + f p ≡ all → over_seats f (set xs k (record { pass = Some p; gate = gate })) ≡ all
+    pub sum_all : (f : RunPass → ℕ) (all : ℕ) → ((d : Seat G) → (get_or xs k d).pass ≡ None) → over_seats f xs + f p ≡ all
+        → over_seats f (set xs k (record { pass = Some p; gate = gate })) ≡ all
     sum_all f all free so_far = sum_seated f free ∙ so_far
 
     pub each_seated : (P : RunPass → Type 0) → P p → All (λ s. IfSome s.pass P) xs → All (λ s. IfSome s.pass P) (set xs k (record { pass = Some p; gate = gate }))
@@ -91,7 +94,8 @@ module _ {G : Type 0} where
 
     pub still_free : (n : ℕ) → n ≤ k → ((i : ℕ) (d : Seat G) → i < n → (get_or xs i d).pass ≡ None)
         → (i : ℕ) (d : Seat G) → i < n → (get_or (set xs k (record { pass = Some p; gate = gate })) i d).pass ≡ None
-    still_free n low free i d less = ap (λ s. s.pass) (get_or-set_other xs k i (record { pass = Some p; gate = gate }) d (λ e. omega (arith, e, less, low))) ∙ free i d less
+    still_free n low free i d less =
+        ap (λ s. s.pass) (get_or-set_other xs k i (record { pass = Some p; gate = gate }) d (λ e. omega (arith, e, less, low))) ∙ free i d less
 
     pub room_seated : (n : ℕ) → n ≤ p.pass.room → (d : Seat G) → HasRoom n (get_or (set xs k (record { pass = Some p; gate = gate })) k d).pass
     room_seated n low d = subst (HasRoom n) (sym (ap (λ s. s.pass) (get_or-set_same xs k (record { pass = Some p; gate = gate }) d here))) low
@@ -131,7 +135,8 @@ module _ {G : Type 0} (store : RunStore) (whole : RunPass) (is : IsWholeAtRest s
   pub within : (p : RunPass) (xs : List (Seat G)) → IsSharingOut store whole p xs → callers_held p ≤ length xs
   within p xs so_far = let all = whole_callers store whole is in let count = so_far.count in let callers = so_far.callers in omega (arith, all, count, callers)
 
-  pub one_shared : (p new own : RunPass) (xs : List (Seat G)) (k : ℕ) (gate : G) → IsSharingOut store whole p xs → 1 < callers_held p → IsKeptPart p new 1 → IsPassOfStore store new
+  pub one_shared : (p new own : RunPass) (xs : List (Seat G)) (k : ℕ) (gate : G) → IsSharingOut store whole p xs → 1 < callers_held p
+      → IsKeptPart p new 1 → IsPassOfStore store new
       → IsPassOfStore store own × IsNewPart p own 1 → k ≡ callers_held new → IsSharingOut store whole new (set xs k (record { pass = Some own; gate = gate }))
   one_shared p new own xs k gate so_far several kept of part at =
       let split = callers_split p new own kept part.1 several in
@@ -153,7 +158,8 @@ module _ {G : Type 0} (store : RunStore) (whole : RunPass) (is : IsWholeAtRest s
         fills = sum_kept xs k own gate here fills_made p new (fills_made whole) free (fills_split p new own kept part.1 several) so_far.fills;
       }
 
-  pub all_shared : (p : RunPass) (xs : List (Seat G)) (gate : G) → 0 < callers_held p → IsSharingOut store whole p xs → AreSharedOut store whole (set xs 0 (record { pass = Some p; gate = gate }))
+  pub all_shared : (p : RunPass) (xs : List (Seat G)) (gate : G) → 0 < callers_held p → IsSharingOut store whole p xs
+      → AreSharedOut store whole (set xs 0 (record { pass = Some p; gate = gate }))
   all_shared p xs gate some so_far =
       let low = within p xs so_far in
       let here : 0 < length xs = omega (arith, some, low) in
@@ -161,7 +167,8 @@ module _ {G : Type 0} (store : RunStore) (whole : RunPass) (is : IsWholeAtRest s
       let enough = so_far.enough in
       record {
         each = each_seated xs 0 p gate here (IsReady store) (record { rest = so_far.rest; draws = omega (arith, enough, some) }) so_far.each;
-        room = room_seated xs 0 p gate here (callers_held whole) (let all = whole_callers store whole is in let room = is.room in let same = so_far.room in omega (arith, all, room, same));
+        room = room_seated xs 0 p gate here (callers_held whole)
+            (let all = whole_callers store whole is in let room = is.room in let same = so_far.room in omega (arith, all, room, same));
         callers = sum_all xs 0 p gate here callers_held (callers_held whole) free so_far.callers;
         draws = sum_all xs 0 p gate here draws_left (draws_left whole) free so_far.draws;
         fills = sum_all xs 0 p gate here fills_made (fills_made whole) free so_far.fills;
@@ -186,7 +193,8 @@ module _ {G : Type 0} where
       let low = sums_less f 0 xs ys same (λ i d here. let e = each i d here in omega (arith, e)) in
       let high = sums_less f 0 ys xs (sym same) (λ i d here. let e = each i d (omega (arith, here, same)) in omega (arith, e)) in omega (arith, low, high)
 
-  module _ (store : RunStore) (xs ys : List (Seat G)) (same : length ys ≡ length xs) (ran : (i : ℕ) (d : Seat G) → i < length xs → HasRunAt store (get_or xs i d).pass (get_or ys i d).pass) where
+  module _ (store : RunStore) (xs ys : List (Seat G)) (same : length ys ≡ length xs)
+      (ran : (i : ℕ) (d : Seat G) → i < length xs → HasRunAt store (get_or xs i d).pass (get_or ys i d).pass) where
     pub all_rest : All (λ s. IfSome s.pass (IsAtRest store)) ys
     all_rest i d here = (ran i d (omega (arith, here, same))).rest
 

@@ -3,7 +3,8 @@ ghost use Rattle.std.specs.Prelude.{◌≡◌, ℕ, ◌+◌, ◌*◌, ◌^◌, �
 ghost use Rattle.run_bodies.specs.Records.{AreAhead};
 ghost use Rattle.inspect_workers.specs.Noted.{fills_in};
 ghost use Rattle.inspect_workers.specs.Opened.{IsOpened};
-ghost use Rattle.inspect_workers.specs.Seats.{AreFree, IsWholeAtRest, IsAtRest, IsReady, AreSharedOut, HasRunAt, HasRoom, MayBegin, over_seats, callers_held, draws_left, fills_made};
+ghost use Rattle.inspect_workers.specs.Seats.{AreFree, IsWholeAtRest, IsAtRest, IsReady, AreSharedOut, HasRunAt, HasRoom, MayBegin};
+ghost use Rattle.inspect_workers.specs.Seats.{over_seats, callers_held, draws_left, fills_made};
 
 use crate::works::work_ahead;
 use run_bodies::Gate;

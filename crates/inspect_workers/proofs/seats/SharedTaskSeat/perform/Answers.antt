@@ -6,5 +6,5 @@ use Rattle.inspect_workers.proofs.seats.SharedTaskSeat.perform.Goals as goal
 pub returns-in-Some : goal.returns-in-Some
 returns-in-Some g c =
     let run = c.args.self.now.run.now in
-    ran_at c.args.self.now.store.now (work_of_run run) (4 * length run.plan.now.tasks.items + 2) c.args.seat.now.pass c.in-Some.pass c.work_ahead-pass.result.0 (sym c.in-Some.ensures.value)
-    c.work_ahead-pass.ensures.left c.work_ahead-pass.ensures.records
+    ran_at c.args.self.now.store.now (work_of_run run) (4 * length run.plan.now.tasks.items + 2) c.args.seat.now.pass c.in-Some.pass c.work_ahead-pass.result.0
+    (sym c.in-Some.ensures.value) c.work_ahead-pass.ensures.left c.work_ahead-pass.ensures.records
