@@ -69,6 +69,7 @@ pub(crate) fn batch<'b, R: Threads + Sync, G: Gate + Send + Drop>(
 }
 
 // Gives each worker a caller of the pass, the last worker the greatest. The first worker has what is left.
+#[tactic(auto, using(crate::proofs::Sharing::all_shared))]
 fn share_out<'b, G: Gate + Drop>(
     alloc: Global,
     store: &Store<RunPurpose<'b>>,
