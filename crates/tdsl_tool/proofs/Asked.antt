@@ -58,7 +58,8 @@ module _ (files : Folder) where
 
   -- the workers' records come with what was made, and with nothing else
   module _ (asked : Asked) (out : Writing) where
-    handed : (made : Result Made Fault) (ending : Ending) → IfOk made (λ m. HandsOut asked files (records_of m)) → IfErr made (λ fault. IsStop asked files (cause_of fault)) → IsPut (outcome_of made) out ending
+    handed : (made : Result Made Fault) (ending : Ending) → IfOk made (λ m. HandsOut asked files (records_of m))
+        → IfErr made (λ fault. IsStop asked files (cause_of fault)) → IsPut (outcome_of made) out ending
         → (ending_status ending ≡ 0) ⊎ (ending_status ending ≡ 3) → HandsOut asked files (records_made made)
     handed (Ok made) ending hands stop put status = hands
     handed (Err fault) finished hands stop put status = absurd put
@@ -94,7 +95,8 @@ module _ (one : VerdictIsOne) (one_file : RuleFileIsOne) (some : SomeAnswerOf) (
         }
 
     ran : (IsAlone (asked_by words) → (file : List ℕ) → run.files.after file ≡ run.files.before file)
-        → ((run.status ≡ 0) ⊎ (run.status ≡ 3) → HandsOut (asked_by words) run.files run.history) → (run.status ≢ 0 → run.status ≢ 3 → run.history ≡ None) → Ran words run
+        → ((run.status ≡ 0) ⊎ (run.status ≡ 3) → HandsOut (asked_by words) run.files run.history)
+        → (run.status ≢ 0 → run.status ≢ 3 → run.history ≡ None) → Ran words run
     ran quiet hands none = record {
       usage = (usage_is, λ none. is ∙ (usage_told run.files run.out run.faults ending (at unknown none) tells).0);
       usage_line = λ status. let told = usage_told run.files run.out run.faults ending (at unknown (usage_is status)) tells in (told.1, told.2);
@@ -108,7 +110,8 @@ module _ (one : VerdictIsOne) (one_file : RuleFileIsOne) (some : SomeAnswerOf) (
 
   -- a run that put what its command made
   pub ran_by : (words : List (List ℕ)) (run : Run) (asked : Asked) (made : Result Made Fault) (ending : Ending) → asked ≡ asked_by words
-      → IfOk made (λ m. IsOutput asked run.files m.text.items) → IfOk made (λ m. HandsOut asked run.files (records_of m)) → IfErr made (λ fault. IsStop asked run.files (cause_of fault))
+      → IfOk made (λ m. IsOutput asked run.files m.text.items) → IfOk made (λ m. HandsOut asked run.files (records_of m))
+      → IfErr made (λ fault. IsStop asked run.files (cause_of fault))
       → IsPut (outcome_of made) run.out ending → run.history ≡ records_made made
       → (IsAlone asked → (file : List ℕ) → run.files.after file ≡ run.files.before file) → run.status ≡ ending_status ending → Tells run.faults ending → Ran words run
   ran_by words run asked made ending are output hands stop put history_is quiet is tells =

@@ -9,7 +9,7 @@ use Rattle.serial_terms.specs.declared.call.Done.{Done}
 use Rattle.tdsl_tool.specs.Audit.{IsAuditOf, StopsAtJournal, Audited}
 use Rattle.tdsl_tool.specs.Handed.{IsHistoryUnder, IsHistoryOfTrial}
 use Rattle.tdsl_tool.specs.Making.{IsSummary, ReadsNothing}
-use Rattle.tdsl_tool.specs.Run.{Folder, Run, IsRunOf, source, reading, IfBothTold, ComesTo, StopsAt, TellsLine, Inspected}
+use Rattle.tdsl_tool.specs.Run.{Folder, Reading, Run, IsRunOf, source, reading, IfBothTold, ComesTo, StopsAt, TellsLine, Inspected}
 use Rattle.tdsl_tool.specs.Verdict.{reports}
 
 -- the text is what is asked for, of these files
@@ -28,9 +28,13 @@ IsStop (audit name) files cause = StopsAtJournal (source files name) cause
 IsStop (make seed frames) files cause = cause ≡ no_memory
 IsStop (trial workers seed frames) files cause = cause ≡ no_memory
 
+-- these records are those of workers that inspected the two files, where these are told
+abbrev pub IsHistoryFor : Reading → List (Entry Done) → Type 0
+IsHistoryFor of records = IfBothTold of (λ text bytes. IsHistoryUnder of.settings text bytes records)
+
 -- these records are handed out with its output: those of its workers, or none where it has no workers
 abbrev pub HandsOut : Asked → Folder → Option (List (Entry Done)) → Type 0
-HandsOut (inspect names settings) files handed = IsSomeAnd handed (λ records. IfBothTold (reading files names settings) (λ text bytes. IsHistoryUnder settings text bytes records))
+HandsOut (inspect names settings) files handed = IsSomeAnd handed (IsHistoryFor (reading files names settings))
 HandsOut (trial workers seed frames) files handed = IsSomeAnd handed (IsHistoryOfTrial workers seed frames)
 HandsOut asked files handed = handed ≡ None
 

@@ -90,6 +90,7 @@ fn each_failed_read_names_its_file(rt: HostRuntime) -> Result<(), Fail> {
         assert_eq!(rt; ended.status, wanted);
         assert_eq!(rt; faults.written(), line.as_bytes());
         assert!(rt; ended.status == 0 || out.written().is_empty());
+        assert_eq!(rt; ended.history.is_some(), ended.status == 0);
     }
     Ok(())
 }
@@ -108,6 +109,7 @@ fn each_failed_write_leaves_a_beginning(rt: HostRuntime) -> Result<(), Fail> {
         let ended = run_quietly(&rt, alloc, &words, &mut files, &mut out, &mut faults)?;
         let before = (failing - 1) as usize;
         assert_eq!(rt; out.sink.written(), &whole[..before.min(whole.len())]);
+        assert!(rt; ended.history.is_some());
         if before < whole.len() {
             assert_eq!(rt; ended.status, 3);
             assert_eq!(rt; faults.written(), b"write fault\n".as_slice());

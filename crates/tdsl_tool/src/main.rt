@@ -17,6 +17,8 @@ mod laws;
 mod made;
 #[cfg(test)]
 mod making_tests;
+#[cfg(test)]
+mod meeting_tests;
 mod outputs;
 mod run;
 #[cfg(test)]

@@ -65,14 +65,17 @@ fn a_trial_is_summed_up(rt: HostRuntime) -> Result<(), Fail> {
         ),
     ];
     for (seed, frames, counts, sum) in cases {
-        let tried = made(&rt, alloc, &["trial", seed, frames], 1000)?;
         let mut want = format!(in alloc; "trial {seed} {frames}\n")?
             .as_bytes()
             .to_vec(alloc)?;
         want.extend_from_slice(&report(alloc, counts, sum)?)?;
-        assert_eq!(rt; tried.status, 0);
-        assert_eq!(rt; tried.out.written(), want.as_slice());
-        assert_eq!(rt; tried.faults.written(), b"".as_slice());
+        for workers in ["1", "4", "16"] {
+            let words = ["trial", "--workers", workers, seed, frames];
+            let tried = made(&rt, alloc, &words, 1000)?;
+            assert_eq!(rt; tried.status, 0);
+            assert_eq!(rt; tried.out.written(), want.as_slice());
+            assert_eq!(rt; tried.faults.written(), b"".as_slice());
+        }
     }
     Ok(())
 }

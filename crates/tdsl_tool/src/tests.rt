@@ -148,6 +148,13 @@ pub(crate) const USAGE: &str =
 
 pub(crate) const COMMAND: [&str; 3] = ["inspect", "r", "c"];
 
+// The same by one worker, by four, and by sixteen.
+const BY_WORKERS: [[&str; 5]; 3] = [
+    ["inspect", "--workers", "1", "r", "c"],
+    ["inspect", "--workers", "4", "r", "c"],
+    ["inspect", "--workers", "16", "r", "c"],
+];
+
 // The header and the record header of `HELLO` with the highest byte of each number first.
 const HIGH_FIRST: [u8; 40] = [
     0xa1, 0xb2, 0xc3, 0xd4, 0, 2, 0, 4, 0, 0, 0, 0, 0, 0, 0, 0, 0, 4, 0, 0, 0, 0, 0, 1, 0, 0, 0, 1,
@@ -236,7 +243,7 @@ fn reports_are_those_of_the_captures(rt: HostRuntime) -> Result<(), Fail> {
     Ok(())
 }
 
-// Whether the capture of these fragments gives the report with these counts and finding lines.
+// Whether the capture of these fragments gives the report with these counts and finding lines, whatever the number of workers.
 fn gives<R: Threads + Sync>(
     rt: &R,
     alloc: Global,
@@ -246,8 +253,14 @@ fn gives<R: Threads + Sync>(
     findings: &str,
 ) -> Result<bool, AllocError> {
     let capture = fragments(alloc, list)?;
-    let got = inspected(rt, alloc, &COMMAND, rules, &capture, 0)?;
-    Ok(got.status == 0 && got.out.as_slice() == report(alloc, counts, findings)?.as_slice())
+    let want = report(alloc, counts, findings)?;
+    for words in BY_WORKERS {
+        let got = inspected(rt, alloc, &words, rules, &capture, 0)?;
+        if got.status != 0 || got.out.as_slice() != want.as_slice() {
+            return Ok(false);
+        }
+    }
+    Ok(true)
 }
 
 #[test]
@@ -621,14 +634,16 @@ fn a_usual_capture_is_reported(rt: HostRuntime) -> Result<(), Fail> {
         add_frame(&mut capture, head, length)?;
     }
     let rules = b"rule dns proto udp dport 53 has \"|07|example|03|com|00|\" from 20";
-    let got = inspected(&rt, alloc, &COMMAND, rules, &capture, 0)?;
     let want = report(
         alloc,
         [8, 2, 0, 0, 3, 3, 0, 0, 4, 0, 1],
         "finding 4 dns 20\n",
     )?;
-    assert_eq!(rt; got.status, 0);
-    assert_eq!(rt; got.out.as_slice(), want.as_slice());
-    assert_eq!(rt; got.faults.as_slice(), b"".as_slice());
+    for words in BY_WORKERS {
+        let got = inspected(&rt, alloc, &words, rules, &capture, 0)?;
+        assert_eq!(rt; got.status, 0);
+        assert_eq!(rt; got.out.as_slice(), want.as_slice());
+        assert_eq!(rt; got.faults.as_slice(), b"".as_slice());
+    }
     Ok(())
 }
