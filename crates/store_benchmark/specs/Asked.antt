@@ -1,5 +1,5 @@
 -- What a body asked for, one call after another, whatever it was answered.
-use Rattle.std.specs.Prelude.{◌≡◌, ℕ, List, [], ◌∷◌, ◌++◌, map, Option, Some, None, Result, Ok, Err}
+use Rattle.std.specs.Prelude.{◌≡◌, ℕ, List, [], ◌∷◌, map, Option, Some, None, Result, Ok, Err}
 use Rattle.serial_terms.specs.declared.call.Call.{Call}
 use Rattle.serial_terms.specs.declared.call.Call.TheVariants.{MapGet, MapPut, MapRemove, Enqueue, Dequeue, Take, Give, Append, CellGet, CellPut}
 use Rattle.serial_terms.specs.declared.call.Done.{Done}

@@ -1,5 +1,5 @@
 -- The store that the workloads run over.
-use Rattle.std.specs.Prelude.{◌≡◌, ◌<◌, ◌≤◌, length}
+use Rattle.std.specs.Prelude.{◌<◌, ◌≤◌, length}
 use Rattle.store_layout.specs.Shapes.{Shape}
 use Rattle.tx_core.specs.Calls.{MayCommit}
 use Rattle.store_meaning.specs.declared.meaning.StoreMeaning.{StoreMeaning}
