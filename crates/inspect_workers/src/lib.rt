@@ -9,6 +9,8 @@ mod fills;
 mod inspection;
 mod open;
 mod seats;
+#[cfg(test)]
+mod tests;
 mod transactions;
 mod turns;
 mod works;
