@@ -1,7 +1,7 @@
 //! Runs transactions over a store whose purpose is anything, so that the instructions and the time of a transaction can be
 //! measured, and how many attempts are in vain where several threads work.
 //!
-//! The words are the number of a workload (all of them where it is none of 1 to 5), the threads, the transactions of each, and
+//! The words are the number of a workload (all of them where it is 0), the threads, the transactions of each, and
 //! the seed of what is drawn at random.
 #![tactic(auto)]
 
