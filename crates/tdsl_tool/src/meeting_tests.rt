@@ -142,6 +142,7 @@ fn each_of_two_workers_takes_a_task_while_the_other_is_held_up(
     let mut files = MemoryFiles::new(entries, Vec::new(alloc));
     let mut out = MemorySink::new(alloc, 1000, Vec::new(alloc))?;
     let mut faults = MemorySink::new(alloc, 1000, Vec::new(alloc))?;
+    assert!(rt; gates.len() >= 16);
     let ended = run_with(&rt, alloc, &words, &mut files, &mut out, &mut faults, gates);
     let want = report(
         alloc,
