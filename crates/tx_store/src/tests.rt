@@ -1,8 +1,10 @@
 //! What callers of small stores do in turn, and what they are answered.
+mod bodies;
 mod calls;
 mod script;
 mod seats;
 mod stores;
+mod tries;
 
 use crate::{CommitEnd, OpenEnd, Receipt};
 use script::Answer::{self, Committed, Done, Flag, Found, KeysFull, Number, Refused, Stopped};

@@ -84,7 +84,7 @@ pub(super) fn open_end(alloc: Global, parts: Parts) -> Result<Option<OpenEnd>, A
     }
 }
 
-fn opened(
+pub(super) fn opened(
     alloc: Global,
     parts: Parts,
     callers: u32,
@@ -99,7 +99,7 @@ fn opened(
     }
 }
 
-fn joined(
+pub(super) fn joined(
     store: &Store<Anything>,
     first: StorePass<Anything>,
     second: StorePass<Anything>,
@@ -117,7 +117,7 @@ fn joined(
 }
 
 // What the store holds at its end.
-fn closed(
+pub(super) fn closed(
     alloc: Global,
     store: Store<Anything>,
     pass: StorePass<Anything>,

@@ -1,0 +1,18 @@
+use Rattle.std.proofs.lemmas.Result.{err_from_is_err_and}
+use Rattle.tx_store.specs.BodyFacts.{same_then, stops_after}
+use Rattle.tx_store.proofs.tests.bodies.append_five.Goals as goal
+
+pub returns-in_err-append-clause-same : goal.returns-in_err-append-clause-same
+returns-in_err-append-clause-same c = same_then c.args.tx.now c.loop-value.tx c.append.new.tx c.loop-value.invariant.same c.in_err-append.ensures.same
+
+pub returns-in_err-append-clause-stopped : goal.returns-in_err-append-clause-stopped
+returns-in_err-append-clause-stopped c =
+    let p = err_from_is_err_and c.from_residual.result c.from_residual.ensures.1 in
+    let stops = stops_after c.args.tx.now c.loop-value.tx c.append.new.tx _ c.loop-value.invariant.same (record { same = c.in_err-append.ensures.same; cause = c.in_err-append.ensures.stopped }) in
+    rw (p.1, p.2) stops.cause
+
+pub loop-value-preserved : goal.loop-value-preserved
+loop-value-preserved c = record {
+  same = same_then c.args.tx.now c.loop-value.tx c.append.new.tx c.loop-value.invariant.same c.in_ok-append.ensures.same;
+  running = c.in_ok-append.ensures.ok;
+}
