@@ -1,6 +1,7 @@
 //! Workers on small captures.
 
 mod runs;
+mod turn_ends;
 
 use crate::TurnEnd;
 use run_purpose::RunPurpose;
