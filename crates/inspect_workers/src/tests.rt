@@ -1,5 +1,7 @@
 //! Workers on small captures.
 
+mod interfering;
+mod reading;
 mod runs;
 mod turn_ends;
 

@@ -113,7 +113,7 @@ pub(super) fn closed<'b>(
 }
 
 // The pass after turns until one doesn't work, 100 at most, and how the last one ended.
-fn until_nothing<'b>(
+pub(super) fn until_nothing<'b>(
     alloc: Global,
     store: &Store<RunPurpose<'b>>,
     pass: StorePass<RunPurpose<'b>>,
