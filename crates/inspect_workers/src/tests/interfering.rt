@@ -249,3 +249,14 @@ fn a_turn_of_another_worker_at_any_point_spoils_nothing(rt: HostRuntime) -> Resu
     }
     Ok(())
 }
+
+#[test]
+fn an_only_try_that_meets_another_worker_is_spent(rt: HostRuntime) -> Result<(), Fail> {
+    let alloc = rt.alloc();
+    for given in GIVEN {
+        let met = finds_all_at_every_point(&rt, alloc, given, 1)?;
+        assert_eq!(rt; met.newer, !given.2.is_empty());
+        assert!(rt; met.held);
+    }
+    Ok(())
+}
