@@ -24,15 +24,16 @@ use Rattle.store_history.specs.Histories.{IsSeen}
 use Rattle.store_layout.specs.Shapes.{Shape, shape_of}
 use Rattle.store_layout.specs.States.{state_in}
 use Rattle.store_meaning.specs.declared.meaning.StoreMeaning.{StoreMeaning}
+use Rattle.tx_store.specs.Bodies.{NoMap}
 use Rattle.tx_store.specs.declared.run.RunEnd.{RunEnd}
 use Rattle.tx_store.specs.declared.run.RunEnd.TheVariants as runs
 use Rattle.tx_store.specs.Known.{KnowsHistory}
 use Rattle.tx_store.specs.Resolves.{parts_of}
-use Rattle.tx_store.specs.Runs.{AfterFewer, IsCommittedRun, IsAnswered, IsRefusedRun, IsNotSpent}
+use Rattle.tx_store.specs.Runs.{AfterFewer, IsCommittedRun, IsAnswered, IsRefusedRun, IsNotSpent, IfEndKeysFull}
 use Rattle.tx_store.specs.Stores.{StoreView, PassView}
 use Rattle.inspect_workers.specs.Noted.{AddsOne}
 use Rattle.inspect_workers.specs.Opened.{IsOpened}
-use Rattle.inspect_workers.specs.Turns.{Saw, IsFullLog, IsFullAsLog, IsRefusedWith, RunsToFullLog, TellsOfFull, IsForMemory, unkeyed}
+use Rattle.inspect_workers.specs.Turns.{Saw, IsFullLog, IsFullAsLog, IsRefusedWith, RunsToFullLog, TellsOfFull, IsForMemory}
 
 -- ---- the layout of a run
 
@@ -61,7 +62,7 @@ legal_of P (e ∷ es) s t r = (r.0, r.1, r.2.0, r.3, legal_of P es r.0 t r.4)
 -- ---- refusals
 
 module _ {M : Type 0} (Saw : PassView M → Seen NamedDone → Type 0) (parts : ℕ) (A B : List NamedDone → Type 0) (wider : (notes : List NamedDone) → A notes → B notes) where
-  pub refused_wider : (tries : ℕ) (p q : PassView M) (end : RunEnd) → IsRefusedRun Saw parts A tries p q end → IsRefusedRun Saw parts B tries p q (unkeyed end)
+  pub refused_wider : (tries : ℕ) (p q : PassView M) (end : RunEnd) → IsRefusedRun Saw parts A tries p q end → IsRefusedRun Saw parts B tries p q end
   refused_wider tries p q (runs.Spent n last) is = is
   refused_wider tries p q (runs.Full part values adding) is = record {
     before = is.before;
@@ -72,14 +73,8 @@ module _ {M : Type 0} (Saw : PassView M → Seen NamedDone → Type 0) (parts : 
     books = is.books;
     ends = record { there = is.ends.there; seen = is.ends.seen; end = is.ends.end; calls = wider is.ends.seen.dones is.ends.calls; saw = is.ends.saw };
   }
-  refused_wider tries p q (runs.KeysFull map most) is = record { before = is.before; few = is.few; last = is.last; pass = is.pass; ended = is.ended; books = is.books; ends = tt }
+  refused_wider tries p q (runs.KeysFull map most) is = is
   refused_wider tries p q runs.Memory is = is
-
-pub not_spent : (end : RunEnd) → IsNotSpent end → IsNotSpent (unkeyed end)
-not_spent (runs.Spent n last) alone = alone
-not_spent (runs.Full part values adding) alone = tt
-not_spent (runs.KeysFull map most) alone = tt
-not_spent runs.Memory alone = tt
 
 module _ {K : Type 0} (run : RunPurpose) (store : StoreView (StoreMeaning RunPurpose K)) (opened : IsOpened run store) where
   abbrev at : StoreMeaning RunPurpose K
@@ -175,23 +170,23 @@ module _ {K : Type 0} (run : RunPurpose) (store : StoreView (StoreMeaning RunPur
   abbrev IsRefused : RunEnd → Type 0
   IsRefused end = IsRefusedRun (Saw run store) (parts_of store.table.meaning.plan) WouldAdd tries p q end
 
-  as_log : (end : RunEnd) → IsRefused end → IsFullAsLog (work_of_run run) store.table.meaning.plan (unkeyed end)
-  as_log (runs.Spent n last) is = tt
-  as_log (runs.Full part values adding) is = let e = is.ends in (tells e.seen part values adding e.saw e.end e.calls.placed e.there).0
-  as_log (runs.KeysFull map most) is = tt
-  as_log runs.Memory is = tt
+  as_log : (end : RunEnd) → IfEndKeysFull NoMap end → IsRefused end → IsFullAsLog (work_of_run run) store.table.meaning.plan end
+  as_log (runs.Spent n last) full is = tt
+  as_log (runs.Full part values adding) full is = let e = is.ends in (tells e.seen part values adding e.saw e.end e.calls.placed e.there).0
+  as_log (runs.KeysFull map most) full is = full
+  as_log runs.Memory full is = tt
 
   -- the refusal of calls that never fill the log, of a pass with every caller number
-  pub for_memory : ((notes : List NamedDone) (out : O) → did (by_key notes) out → (values adding : ℕ) → RunsToFullLog (work_of_run run) (by_name notes) values adding → ⊥) → (end : RunEnd) → IsNotSpent end → IsRefused end → IsForMemory (unkeyed end)
-  for_memory never (runs.Spent n last) alone is = alone
-  for_memory never (runs.Full part values adding) alone is = let e = is.ends in never e.seen.dones e.calls.answer e.calls.ran values adding (tells e.seen part values adding e.saw e.end e.calls.placed e.there).1
-  for_memory never (runs.KeysFull map most) alone is = tt
-  for_memory never runs.Memory alone is = tt
+  pub for_memory : ((notes : List NamedDone) (out : O) → did (by_key notes) out → (values adding : ℕ) → RunsToFullLog (work_of_run run) (by_name notes) values adding → ⊥) → (end : RunEnd) → IfEndKeysFull NoMap end → IsNotSpent end → IsRefused end → IsForMemory end
+  for_memory never (runs.Spent n last) full alone is = alone
+  for_memory never (runs.Full part values adding) full alone is = let e = is.ends in never e.seen.dones e.calls.answer e.calls.ran values adding (tells e.seen part values adding e.saw e.end e.calls.placed e.there).1
+  for_memory never (runs.KeysFull map most) full alone is = full
+  for_memory never runs.Memory full alone is = tt
 
-  pub refused_with : (end : RunEnd) → q.pass.books ≡ p.pass.books → IsRefused end → IsRefusedWith run store tries p q (unkeyed end)
-  refused_with end same is = record {
+  pub refused_with : (end : RunEnd) → IfEndKeysFull NoMap end → q.pass.books ≡ p.pass.books → IsRefused end → IsRefusedWith run store tries p q end
+  refused_with end never same is = record {
     books = same;
     cause = refused_wider (Saw run store) (parts_of store.table.meaning.plan) WouldAdd
         (λ notes. IsAllowed (work_of_run run) (by_key notes)) (λ notes would. subst (λ (w : Work). IsAllowed w (by_key notes)) (same_work run store opened) would.allowed) tries p q end is;
-    full = as_log end is;
+    full = as_log end never is;
   }

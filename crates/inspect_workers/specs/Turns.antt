@@ -54,7 +54,7 @@ pub record IsFullLog (w : Work) (plan : Shape) (part values adding : ℕ) : Type
   pub exceeds : get_or plan.logs 0 0 < values + adding
   pub more : (items : List ℕ) → AreAllDatagrams w items → get_or plan.logs 0 0 < length (values_of w items)
 
--- only a full log has more to it than the end of its transaction says
+-- no map is full, and a full log has more to it than the end of its transaction says
 abbrev pub IsFullAsLog : Work → Shape → RunEnd → Type 0
 IsFullAsLog w plan (runs.Spent tries last) = Unit {0}
 IsFullAsLog w plan (runs.Full part values adding) = IsFullLog w plan part values adding
@@ -115,13 +115,6 @@ module _ {K : Type 0} (run : RunPurpose) (store : StoreView (StoreMeaning RunPur
   IsTakeEnd tries old new (turns.Spent n last) = IsRefusedWith tries old new (runs.Spent n last)
   IsTakeEnd tries old new (turns.Full part values adding) = IsRefusedWith tries old new (runs.Full part values adding)
   IsTakeEnd tries old new turns.Memory = IsRefusedWith tries old new runs.Memory
-
--- the end of a transaction, where a full map is want of memory
-abbrev pub unkeyed : RunEnd → RunEnd
-unkeyed (runs.Spent n last) = runs.Spent n last
-unkeyed (runs.Full part values adding) = runs.Full part values adding
-unkeyed (runs.KeysFull map capacity) = runs.Memory
-unkeyed runs.Memory = runs.Memory
 
 -- the end of a turn one transaction of which ended so
 abbrev pub refused_turn : RunEnd → TurnEnd

@@ -9,7 +9,7 @@ ghost use Rattle.tx_store.specs.Runs.{IsLeft, IsNotSpent};
 ghost use Rattle.tx_store.specs.Stores.{IsPassOfStore};
 ghost use Rattle.inspect_workers.specs.Noted.{Adds, AddsOne, IsFill};
 ghost use Rattle.inspect_workers.specs.Opened.{IsOpened};
-ghost use Rattle.inspect_workers.specs.Turns.{IsRefusedWith, TellsOfFull, IsForMemory, unkeyed};
+ghost use Rattle.inspect_workers.specs.Turns.{IsRefusedWith, TellsOfFull, IsForMemory};
 
 use run_bodies::{Filling, Gate, Matching, Point, Taking};
 use run_findings::Slot;
@@ -56,7 +56,7 @@ pub(crate) fn match_one<'r, 'b, G: Gate>(
         Err(refused) => {
             let (back, end) = refused;
             tell_full(store, &back, run);
-            Err((back, unkeyed(end)))
+            Err((back, end))
         }
     }
 }
@@ -92,7 +92,7 @@ pub(crate) fn take_one<'b, G: Gate>(
         Err(refused) => {
             let (back, end) = refused;
             tell_full(store, &back, run);
-            Err((back, unkeyed(end)))
+            Err((back, end))
         }
     }
 }
@@ -120,28 +120,8 @@ pub(crate) fn fill_once<'b>(
         Err(refused) => {
             let (back, end) = refused;
             tell_full(store, &back, run);
-            Err((back, unkeyed(end)))
+            Err((back, end))
         }
-    }
-}
-
-// The end of a transaction that was refused, where a full map is want of memory. A run's keys are below the capacities of its maps, so none is
-// ever full of others; but no clause of the store says so.
-fn unkeyed(end: RunEnd) -> RunEnd
-    ensures { result ≡ unkeyed end }
-{
-    match end {
-        RunEnd::Spent { tries, last } => RunEnd::Spent { tries, last },
-        RunEnd::Full {
-            part,
-            length,
-            adding,
-        } => RunEnd::Full {
-            part,
-            length,
-            adding,
-        },
-        RunEnd::KeysFull { .. } | RunEnd::Memory => RunEnd::Memory,
     }
 }
 

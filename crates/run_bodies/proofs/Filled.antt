@@ -11,13 +11,13 @@ use Rattle.run_stages.specs.Allowed.{IsAllowed, fill, gives, next_batch}
 use Rattle.run_stages.specs.Work.{Work}
 use Rattle.run_bodies.specs.Fills.{GoesOnWhere}
 use Rattle.run_bodies.proofs.Outside.{wants_memory}
-use Rattle.tx_store.specs.Bodies.{Does, Acts}
+use Rattle.tx_store.specs.Bodies.{NoMap, Does, Acts}
 use Rattle.tx_store.specs.declared.run.BodyStop.{BodyStop}
 use Rattle.tx_store.specs.Stores.{TxView}
 
 module _ {M : Type 0} where
   -- a call whose reply is the one that was asked for, or the attempt is given up
-  pub checked : (a b : TxView M) (x y : Done) (is : Bool) (result : Result (Unit {0}) BodyStop) → Does a b (x ∷ []) → (is ≡ true → x ≡ y) → GoesOnWhere is result → Acts a b (λ _. y ∷ []) result
+  pub checked : (a b : TxView M) (x y : Done) (is : Bool) (result : Result (Unit {0}) BodyStop) → Does a b (x ∷ []) → (is ≡ true → x ≡ y) → GoesOnWhere is result → Acts NoMap a b (λ _. y ∷ []) result
   checked a b x y is (Ok answer) does same goes = subst (λ (d : Done). Does a b (d ∷ [])) (same goes) does
   checked a b x y is (Err stop) does same goes = rw goes (wants_memory a b (x ∷ []) does)
 

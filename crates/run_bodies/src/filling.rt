@@ -7,7 +7,7 @@ ghost use Rattle.serial_terms.specs.Serial.{outside};
 ghost use Rattle.run_stages.specs.Allowed.{gives, next_batch};
 ghost use Rattle.run_stages.specs.Ends.{is_fill};
 ghost use Rattle.tx_core.specs.Calls.{MayCommit};
-ghost use Rattle.tx_store.specs.Bodies.{Acts};
+ghost use Rattle.tx_store.specs.Bodies.{NoMap, Acts};
 ghost use Rattle.run_bodies.specs.Fills.{GoesOnWhere};
 ghost use Rattle.run_bodies.specs.RunStores.{IsRunStore, work_of_run};
 
@@ -39,6 +39,8 @@ impl<'r, 'b> Body<RunPurpose<'b>> for Filling<'r, 'b> {
 
     ghost runs = { λ f calls out. is_fill calls ≡ 1 };
 
+    ghost keys_full = { λ _. NoMap };
+
     fn body(
         &mut self,
         _alloc: Global,
@@ -60,7 +62,7 @@ fn count_fill(tx: &mut StoreTx<'_, RunPurpose<'_>>, fills: u64) -> Result<(), Bo
     requires queue { 0 < length tx.old.store.table.meaning.plan.queues }
     requires cell { 0 < tx.old.store.table.meaning.plan.cells }
     requires fills { fills < 2 ^ 32 }
-    ensures { Acts tx.old tx.new (λ _. outside (QueueLen 0) (Value 0) ∷ outside (CellGet 0) (Value fills) ∷ outside (CellPut 0 (fills + 1)) Nothing ∷ []) result }
+    ensures { Acts NoMap tx.old tx.new (λ _. outside (QueueLen 0) (Value 0) ∷ outside (CellGet 0) (Value fills) ∷ outside (CellPut 0 (fills + 1)) Nothing ∷ []) result }
 {
     match is_empty(tx) {
         Ok(()) => {}
@@ -77,7 +79,7 @@ fn count_fill(tx: &mut StoreTx<'_, RunPurpose<'_>>, fills: u64) -> Result<(), Bo
 fn is_empty(tx: &mut StoreTx<'_, RunPurpose<'_>>) -> Result<(), BodyStop>
     requires callable { MayCommit tx.old.attempt }
     requires queue { 0 < length tx.old.store.table.meaning.plan.queues }
-    ensures { Acts tx.old tx.new (λ _. outside (QueueLen 0) (Value 0) ∷ []) result }
+    ensures { Acts NoMap tx.old tx.new (λ _. outside (QueueLen 0) (Value 0) ∷ []) result }
 {
     match tx.queue_len(0) {
         Ok(length) => only_where(length == 0),
@@ -89,7 +91,7 @@ fn is_empty(tx: &mut StoreTx<'_, RunPurpose<'_>>) -> Result<(), BodyStop>
 fn has_count(tx: &mut StoreTx<'_, RunPurpose<'_>>, fills: u64) -> Result<(), BodyStop>
     requires callable { MayCommit tx.old.attempt }
     requires cell { 0 < tx.old.store.table.meaning.plan.cells }
-    ensures { Acts tx.old tx.new (λ _. outside (CellGet 0) (Value fills) ∷ []) result }
+    ensures { Acts NoMap tx.old tx.new (λ _. outside (CellGet 0) (Value fills) ∷ []) result }
 {
     match tx.cell_get(0) {
         Ok(there) => only_where(there == fills),
@@ -101,7 +103,7 @@ fn has_count(tx: &mut StoreTx<'_, RunPurpose<'_>>, fills: u64) -> Result<(), Bod
 fn put_count(tx: &mut StoreTx<'_, RunPurpose<'_>>, fills: u64) -> Result<(), BodyStop>
     requires callable { MayCommit tx.old.attempt }
     requires cell { 0 < tx.old.store.table.meaning.plan.cells }
-    ensures { Acts tx.old tx.new (λ _. outside (CellPut 0 fills) Nothing ∷ []) result }
+    ensures { Acts NoMap tx.old tx.new (λ _. outside (CellPut 0 fills) Nothing ∷ []) result }
 {
     match tx.cell_put(0, fills) {
         Ok(()) => Ok(()),
@@ -113,7 +115,7 @@ fn put_count(tx: &mut StoreTx<'_, RunPurpose<'_>>, fills: u64) -> Result<(), Bod
 fn give(tx: &mut StoreTx<'_, RunPurpose<'_>>, task: u32, from: u32) -> Result<(), BodyStop>
     requires callable { MayCommit tx.old.attempt }
     requires pool { 0 < length tx.old.store.table.meaning.plan.pools }
-    ensures { Acts tx.old tx.new (λ _. outside (Give 0 task) (Flag true) ∷ []) result }
+    ensures { Acts NoMap tx.old tx.new (λ _. outside (Give 0 task) (Flag true) ∷ []) result }
 {
     match tx.pool_put(0, u64::from(task), from) {
         Ok(given) => only_where(given),
@@ -141,7 +143,7 @@ fn give_batch<'b>(
     requires callable { MayCommit tx.old.attempt }
     requires store { IsRunStore run.now tx.old.store }
     requires left { 4096 * (fills + 1) < length run.now.plan.now.tasks.items }
-    ensures { Acts tx.old tx.new (λ _. gives (work_of_run run.now) (next_batch (work_of_run run.now) fills)) result }
+    ensures { Acts NoMap tx.old tx.new (λ _. gives (work_of_run run.now) (next_batch (work_of_run run.now) fills)) result }
 {
     told_law(run, tx);
     tasks_have_facts_law();
@@ -160,7 +162,7 @@ fn give_all<'b>(
     requires callable { MayCommit tx.old.attempt }
     requires pool { 0 < length tx.old.store.table.meaning.plan.pools }
     requires small { first + count < 2 ^ 32 }
-    ensures { Acts tx.old tx.new (λ _. gives (work_of_run _run.now) (numbers_from first count)) result }
+    ensures { Acts NoMap tx.old tx.new (λ _. gives (work_of_run _run.now) (numbers_from first count)) result }
 {
     for place in 0..count {
         match give(tx, first + place, place) {

@@ -9,7 +9,7 @@ ghost use Rattle.run_bodies.specs.Matching.{MayMatch, IsDatagram, AreTasksOf, Is
 ghost use Rattle.run_bodies.specs.RunStores.{IsRunStore, work_of_run};
 ghost use Rattle.run_bodies.specs.Records.{TookItem, AreFoundFor, AreAhead};
 ghost use Rattle.tx_core.specs.Calls.{MayCommit};
-ghost use Rattle.tx_store.specs.Bodies.{StopsWith};
+ghost use Rattle.tx_store.specs.Bodies.{NoMap, StopsWith};
 ghost use Rattle.tx_store.specs.Runs.{IsFresh};
 
 mod appending;
@@ -84,7 +84,7 @@ impl<'r, 'b, 'g, G: Gate> Matching<'r, 'b, 'g, G> {
         requires fresh { IsFresh tx.old.attempt }
         requires may { MayMatch self.old.run.now self.old.ahead.now self.old.found_for self.old.values.items tx.old.store }
         ensures tried { IfOk result (HasTried (work_of_run self.old.run.now) tx.old tx.new) }
-        ensures stopped { IfErr result (StopsWith tx.old tx.new) }
+        ensures stopped { IfErr result (StopsWith NoMap tx.old tx.new) }
         ensures again { MayMatch self.new.run.now self.new.ahead.now self.new.found_for self.new.values.items tx.old.store }
     {
         match next_item(self.run, self.gate, tx) {
@@ -109,7 +109,7 @@ impl<'r, 'b, 'g, G: Gate> Matching<'r, 'b, 'g, G> {
         requires datagram { IsDatagram (work_of_run self.old.run.now) item }
         requires taken { by_key tx.old.attempt.notes ≡ dequeued (Some item) ∷ [] }
         ensures matched { OnOk result (IsMatched (work_of_run self.old.run.now) item tx.old tx.new) }
-        ensures stopped { IfErr result (StopsWith tx.old tx.new) }
+        ensures stopped { IfErr result (StopsWith NoMap tx.old tx.new) }
         ensures again { MayMatch self.new.run.now self.new.ahead.now self.new.found_for self.new.values.items tx.old.store }
     {
         told_law(self.run, tx);
@@ -156,7 +156,7 @@ impl<'r, 'b, 'g, G: Gate> Matching<'r, 'b, 'g, G> {
         requires may { MayMatch self.old.run.now self.old.ahead.now self.old.found_for self.old.values.items tx.old.store }
         requires kept { All IsKept self.old.values.items }
         ensures appended { OnOk result (HasAppended (work_of_run self.old.run.now) self.old.values.items tx.old tx.new) }
-        ensures stopped { IfErr result (StopsWith tx.old tx.new) }
+        ensures stopped { IfErr result (StopsWith NoMap tx.old tx.new) }
         ensures again { MayMatch self.new.run.now self.new.ahead.now self.new.found_for self.new.values.items tx.old.store }
     {
         if self.values.as_slice().is_empty() {
@@ -196,6 +196,8 @@ impl<'r, 'b, 'g, G: Gate> Body<RunPurpose<'b>> for Matching<'r, 'b, 'g, G> {
     ghost can_run = { λ m store. IsRunStore m.run.now store × AreAhead m.run.now m.ahead.now × AreFoundFor (work_of_run m.run.now) m.found_for m.values.items };
 
     ghost runs = { λ m calls taken. TookItem calls taken };
+
+    ghost keys_full = { λ _. NoMap };
 
     fn body(
         &mut self,

@@ -8,7 +8,7 @@ ghost use Rattle.run_stages.specs.Allowed.{added};
 ghost use Rattle.run_stages.specs.Work.{IsMember, task, head_of};
 ghost use Rattle.run_purpose.specs.Words.{FitsWord};
 ghost use Rattle.tx_nest.specs.Attempts.{IsInChild};
-ghost use Rattle.tx_store.specs.Bodies.{Acts};
+ghost use Rattle.tx_store.specs.Bodies.{NoMap, Acts};
 ghost use Rattle.tx_store.specs.Children.{view_of, HasMark};
 ghost use Rattle.tx_store.specs.Runs.{IsFresh};
 ghost use Rattle.run_bodies.specs.InChild.{ActsInChild, ActsInChildBy};
@@ -90,6 +90,8 @@ impl<'r, 'b, 'g, G: Gate> Body<RunPurpose<'b>> for Taking<'r, 'b, 'g, G> {
 
     ghost runs = { λ t calls taken. TookTask calls taken };
 
+    ghost keys_full = { λ _. NoMap };
+
     fn body(
         &mut self,
         _alloc: Global,
@@ -124,7 +126,7 @@ fn take<'b, G: Gate>(
 ) -> Result<Option<u32>, BodyStop>
     requires fresh { IsFresh tx.old.attempt }
     requires store { IsRunStore run.now tx.old.store }
-    ensures acts { Acts tx.old tx.new (λ taken. outside (Take 0) (found taken) ∷ []) result }
+    ensures acts { Acts NoMap tx.old tx.new (λ taken. outside (Take 0) (found taken) ∷ []) result }
     ensures there { IfOk result (λ taken. (i : ℕ) → taken ≡ Some i → i < length run.now.plan.now.tasks.items) }
 {
     told_law(run, tx);

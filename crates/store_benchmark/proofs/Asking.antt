@@ -11,7 +11,7 @@ use Rattle.store_meaning.specs.declared.meaning.StoreMeaning.{StoreMeaning}
 use Rattle.store_parts.specs.Parts.{noted}
 use Rattle.tx_map.specs.declared.part.MapStop.{MapStop}
 use Rattle.tx_core.specs.declared.stop.TxState.TheVariants.{Running}
-use Rattle.tx_store.specs.Bodies.{StopsWith, of_map}
+use Rattle.tx_store.specs.Bodies.{StopsWith, AnyMap, of_map}
 use Rattle.tx_store.specs.BodyFacts.{acts_called, acts_keyed, does_nothing, does_then, stops_after}
 use Rattle.tx_store.specs.declared.run.BodyStop.{BodyStop}
 use Rattle.tx_store.specs.Calls.{IsCalled, in_child}
@@ -28,21 +28,21 @@ module _ {P K : Type 0} (a b : TxView (StoreMeaning P K)) where
     pub called : (reply : Reply) (o : Object) (n : ℕ) → IsCalled a.store.table.meaning.plan o n a b (noted call reply (in_child a.attempt.state) 0 ∷ []) None → Asked a b (call ∷ [])
     called reply o n is = record {
       dones = _;
-      does = acts_called {A = Unit {0}} a.store.table.meaning.plan o n a b (λ x. noted call reply (in_child a.attempt.state) 0) (Ok tt) r.may.before_commit is;
+      does = acts_called {A = Unit {0}} AnyMap a.store.table.meaning.plan o n a b (λ x. noted call reply (in_child a.attempt.state) 0) (Ok tt) r.may.before_commit is;
       are = refl;
     }
 
     pub keyed : {A : Type 0} (passes : ℕ → ℕ → Type 0) (reply : A → Reply) (m key n : ℕ) (x : A) → IsCalledWithKey passes a.store.table.meaning.plan m key n a b (λ x. record { call = call; reply = reply x }) (Ok x) → Asked a b (call ∷ [])
     keyed passes reply m key n x is = record {
       dones = _;
-      does = acts_keyed passes a.store.table.meaning.plan m key n a b (λ x. record { call = call; reply = reply x }) (Ok x) r.may.before_commit is;
+      does = acts_keyed AnyMap passes a.store.table.meaning.plan m key n a b (λ x. record { call = call; reply = reply x }) (Ok x) r.may.before_commit (λ capacity full. tt) is;
       are = refl;
     }
 
     pub key_stopped : {A : Type 0} (passes : ℕ → ℕ → Type 0) (told : A → Told) (m key n : ℕ) (stop : MapStop) (end : BodyStop) → end ≡ of_map m stop
-        → IsCalledWithKey passes a.store.table.meaning.plan m key n a b told (Err stop) → StopsWith a b end
+        → IsCalledWithKey passes a.store.table.meaning.plan m key n a b told (Err stop) → StopsWith AnyMap a b end
     key_stopped passes told m key n stop end is called =
-        subst (λ (e : BodyStop). StopsWith a b e) (sym is) (acts_keyed passes a.store.table.meaning.plan m key n a b told (Err stop) r.may.before_commit called)
+        subst (λ (e : BodyStop). StopsWith AnyMap a b e) (sym is) (acts_keyed AnyMap passes a.store.table.meaning.plan m key n a b told (Err stop) r.may.before_commit (λ capacity full. tt) called)
 
 -- one call more
 pub one_more : (f : ℕ → Call) (keys : List ℕ) (i k d : ℕ) → i < length keys → k ≡ get_or keys i d → map f (take i keys) ++ f k ∷ [] ≡ map f (take (i + 1) keys)
@@ -61,7 +61,7 @@ module _ {M : Type 0} where
     are = map-append (λ (d : Done). d.call) x.dones y.dones ∙ (ap (λ (cs : List Call). cs ++ asked y.dones) x.are ∙ ap (λ (cs : List Call). xs ++ cs) y.are);
   }
 
-  pub stopped_after : (a b d : TxView M) (xs : List Call) (stop : BodyStop) → Asked a b xs → StopsWith b d stop → StopsWith a d stop
+  pub stopped_after : (a b d : TxView M) (xs : List Call) (stop : BodyStop) → Asked a b xs → StopsWith AnyMap b d stop → StopsWith AnyMap a d stop
   stopped_after a b d xs stop x is = stops_after a b d stop x.does.same is
 
   pub asks_then : {A : Type 0} (a b d : TxView M) (xs : List Call) (calls : A → List Call) (result : Result A BodyStop) → Asked a b xs → Asks b d calls result → Asks a d (λ answer. xs ++ calls answer) result

@@ -3,7 +3,7 @@ use Rattle.std.specs.Prelude.{◌≡◌, ℕ, List, [], ◌∷◌, map, Option, 
 use Rattle.serial_terms.specs.declared.call.Call.{Call}
 use Rattle.serial_terms.specs.declared.call.Call.TheVariants.{MapGet, MapPut, MapRemove, Enqueue, Dequeue, Take, Give, Append, CellGet, CellPut}
 use Rattle.serial_terms.specs.declared.call.Done.{Done}
-use Rattle.tx_store.specs.Bodies.{Does, StopsWith}
+use Rattle.tx_store.specs.Bodies.{Does, StopsWith, AnyMap}
 use Rattle.tx_store.specs.declared.run.BodyStop.{BodyStop}
 use Rattle.tx_store.specs.Stores.{TxView}
 
@@ -21,7 +21,7 @@ module _ {M : Type 0} (old new : TxView M) where
   -- by how they end
   abbrev pub Asks : {A : Type 0} → (A → List Call) → Result A BodyStop → Type 0
   Asks calls (Ok answer) = Asked (calls answer)
-  Asks calls (Err stop) = StopsWith old new stop
+  Asks calls (Err stop) = StopsWith AnyMap old new stop
 
 -- ---- what the transactions of the workloads call
 

@@ -1,6 +1,7 @@
 //! The calls of cells that a push and a pop make, without a stack.
 ghost use Rattle.std.specs.Prelude.{◌≡◌, ◌-◌, ◌^◌, ◌<◌, [], ◌∷◌};
 ghost use Rattle.serial_terms.specs.declared.call.Call.TheVariants.{CellGet, CellPut};
+ghost use Rattle.tx_store.specs.Bodies.{AnyMap};
 ghost use Rattle.store_benchmark.specs.Asked.{asked, Asks, push_and_pop};
 ghost use Rattle.store_benchmark.specs.Opened.{IsOpened, IsReady};
 
@@ -22,6 +23,8 @@ impl Body<Anything> for ByHand {
     ghost can_run = { λ body store. IsOpened store × (body.value < 2 ^ 64 - 1) };
 
     ghost runs = { λ body calls _. asked calls ≡ push_and_pop body.value };
+
+    ghost keys_full = { λ _. AnyMap };
 
     fn body(&mut self, _: Global, tx: &mut StoreTx<'_, Anything>) -> Result<(), BodyStop> {
         self.runs = self.runs.saturating_add(1);

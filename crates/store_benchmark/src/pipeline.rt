@@ -1,6 +1,7 @@
 //! A pipeline of two transactions: the first hands a slot on, the second takes it over and puts it back.
 ghost use Rattle.std.specs.Prelude.{◌≡◌, ◌-◌, ◌^◌, ◌<◌, [], ◌∷◌};
 ghost use Rattle.serial_terms.specs.declared.call.Call.TheVariants.{MapRemove, Append, Give};
+ghost use Rattle.tx_store.specs.Bodies.{AnyMap};
 ghost use Rattle.store_benchmark.specs.Asked.{asked, Asks, starts, finishes};
 ghost use Rattle.store_benchmark.specs.Opened.{IsOpened, IsReady};
 
@@ -25,6 +26,8 @@ impl Body<Anything> for Start {
     ghost can_run = { λ body store. IsOpened store × (body.value < 2 ^ 64 - 1) };
 
     ghost runs = { λ body calls slot. asked calls ≡ starts body.value slot };
+
+    ghost keys_full = { λ _. AnyMap };
 
     fn body(&mut self, _: Global, tx: &mut StoreTx<'_, Anything>) -> Result<Option<u64>, BodyStop> {
         self.runs = self.runs.saturating_add(1);
@@ -59,6 +62,8 @@ impl Body<Anything> for Finish {
     ghost can_run = { λ _ store. IsOpened store };
 
     ghost runs = { λ _ calls slot. asked calls ≡ finishes slot };
+
+    ghost keys_full = { λ _. AnyMap };
 
     fn body(&mut self, _: Global, tx: &mut StoreTx<'_, Anything>) -> Result<Option<u64>, BodyStop> {
         self.runs = self.runs.saturating_add(1);

@@ -1,5 +1,6 @@
 //! A transaction of gets and puts.
 ghost use Rattle.std.specs.Prelude.{◌≡◌, ◌-◌, ◌^◌, ◌<◌, ◌++◌, All};
+ghost use Rattle.tx_store.specs.Bodies.{AnyMap};
 ghost use Rattle.store_benchmark.specs.Asked.{asked, Asks, gets, puts};
 ghost use Rattle.store_benchmark.specs.Opened.{IsOpened, IsReady};
 
@@ -23,6 +24,8 @@ impl<'k> Body<Anything> for Touch<'k> {
     ghost can_run = { λ body store. IsOpened store × (body.value < 2 ^ 64 - 1) };
 
     ghost runs = { λ body calls _. asked calls ≡ gets body.gets.now ++ puts body.value body.puts.now };
+
+    ghost keys_full = { λ _. AnyMap };
 
     fn body(&mut self, _: Global, tx: &mut StoreTx<'_, Anything>) -> Result<(), BodyStop> {
         self.runs = self.runs.saturating_add(1);

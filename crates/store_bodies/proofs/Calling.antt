@@ -15,11 +15,13 @@ use Rattle.tx_core.specs.declared.stop.TxState.{TxState}
 use Rattle.tx_core.specs.declared.stop.TxState.TheVariants.{Running}
 use Rattle.tx_core.specs.Tx.{Attempt}
 use Rattle.tx_store.specs.Attempts.{Tells}
-use Rattle.tx_store.specs.Bodies.{Does, Acts}
+use Rattle.tx_map.specs.Calls.{IsFull}
+use Rattle.tx_map.specs.declared.part.MapStop.{MapStop}
+use Rattle.tx_store.specs.Bodies.{NoMap, Does, StopsWith, Acts, of_map}
 use Rattle.tx_store.specs.BodyFacts.{acts_called, acts_keyed, done_of}
 use Rattle.tx_store.specs.declared.run.BodyStop.{BodyStop}
 use Rattle.tx_store.specs.Calls.{IsCalled, in_child}
-use Rattle.tx_store.specs.MapCalls.{IsCalledWithKey}
+use Rattle.tx_store.specs.MapCalls.{Told, IsCalledWithKey}
 use Rattle.tx_store.specs.Runs.{IsFresh}
 use Rattle.tx_store.specs.Sees.{SeesHistory}
 use Rattle.tx_store.specs.Stores.{TxView}
@@ -33,7 +35,7 @@ module _ {K : Type 0} (a b : TxView (StoreMeaning Bank K)) where
   did ds f d = d.noted ∙ ap (λ (ns : List NamedDone). by_key ns ++ ds) f.notes
 
   -- a body that keeps the bank by its calls
-  pub ran : {O : Type 0} (calls : O → List Done) (result : Result O BodyStop) → ((o : O) → result ≡ Ok o → KeepsBank (calls o)) → IsFresh a.attempt → Acts a b calls result
+  pub ran : {O : Type 0} (calls : O → List Done) (result : Result O BodyStop) → ((o : O) → result ≡ Ok o → KeepsBank (calls o)) → IsFresh a.attempt → Acts NoMap a b calls result
       → IfOk result (λ out. (b.attempt.state ≡ Running) × KeepsBank (by_key b.attempt.notes) × (by_key b.attempt.notes ≡ calls out))
   ran calls (Ok out) keeps f d = let is = did (calls out) f d in (d.state ∙ f.running, subst KeepsBank (sym is) (keeps out refl), is)
   ran calls (Err stop) keeps f d = tt
@@ -43,11 +45,18 @@ module _ {K : Type 0} (a b : TxView (StoreMeaning Bank K)) where
   module _ (r : IsReady a) (call : Call) where
     pub called : (reply : Reply) (o : Object) (n : ℕ) → IsCalled a.store.table.meaning.plan o n a b (noted call reply (in_child a.attempt.state) 0 ∷ []) None → Does a b (outside call reply ∷ [])
     called reply o n is = subst (λ (st : TxState). Does a b ((noted call reply (in_child st) 0).done ∷ [])) r.may.running
-        (acts_called {A = Unit {0}} a.store.table.meaning.plan o n a b (λ x. noted call reply (in_child a.attempt.state) 0) (Ok tt) r.may.before_commit is)
+        (acts_called {A = Unit {0}} NoMap a.store.table.meaning.plan o n a b (λ x. noted call reply (in_child a.attempt.state) 0) (Ok tt) r.may.before_commit is)
 
     pub keyed : {A : Type 0} (reply : A → Reply) (m key n : ℕ) (x : A) → IsCalledWithKey BelowCapacity a.store.table.meaning.plan m key n a b (λ x. record { call = call; reply = reply x }) (Ok x) → Does a b (outside call (reply x) ∷ [])
     keyed reply m key n x is = subst (λ (st : TxState). Does a b (done_of (record { call = call; reply = reply x }) (in_child st) ∷ [])) r.may.running
-        (acts_keyed BelowCapacity a.store.table.meaning.plan m key n a b (λ x. record { call = call; reply = reply x }) (Ok x) r.may.before_commit is)
+        (acts_keyed NoMap BelowCapacity a.store.table.meaning.plan m key n a b (λ x. record { call = call; reply = reply x }) (Ok x) r.may.before_commit (λ capacity full. absurd (cc)) is)
+
+    -- a map has a place for each key that may be asked for
+    pub key_stopped : {A : Type 0} (told : A → Told) (m key n : ℕ) (stop : MapStop) (end : BodyStop) → end ≡ of_map m stop
+        → IsCalledWithKey BelowCapacity a.store.table.meaning.plan m key n a b told (Err stop) → StopsWith NoMap a b end
+    key_stopped {A} told m key n stop end is called = subst (λ (e : BodyStop). StopsWith NoMap a b e) (sym is)
+        (acts_keyed NoMap BelowCapacity a.store.table.meaning.plan m key n a b told (Err stop) r.may.before_commit
+        (λ capacity full. (called.keys.own_number (λ k low. low)).0 (subst (λ (result : Result A MapStop). IsFull result) (sym full) tt)) called)
 
 -- the calls by name are those by key, and run from the lawful state at the attempt's version
 pub runs_from_bank : {K : Type 0} (p : StoreMeaning Bank K) (a : Attempt (StoreMeaning Bank K) NamedDone)

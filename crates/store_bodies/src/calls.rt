@@ -4,7 +4,7 @@ ghost use Rattle.serial_terms.specs.declared.call.Call.TheVariants.{MapGet, MapP
 ghost use Rattle.serial_terms.specs.declared.call.Reply.TheVariants.{Nothing};
 ghost use Rattle.serial_terms.specs.Renaming.{by_key};
 ghost use Rattle.serial_terms.specs.Serial.{outside, found};
-ghost use Rattle.tx_store.specs.Bodies.{Acts};
+ghost use Rattle.tx_store.specs.Bodies.{NoMap, Acts};
 ghost use Rattle.store_bodies.specs.Attempts.{IsReady, RunsFromBank};
 
 use crate::bank::{Bank, ORDERS, RECEIPTS};
@@ -15,7 +15,7 @@ use tx_store::{BodyStop, StoreTx};
 /// The first order, if there is one, which is taken out of the queue.
 pub(crate) fn take_order(tx: &mut StoreTx<'_, Bank>) -> Result<Option<u64>, BodyStop>
     requires ready { IsReady tx.old }
-    ensures { Acts tx.old tx.new (λ order. outside (Dequeue 0) (found order) ∷ []) result }
+    ensures { Acts NoMap tx.old tx.new (λ order. outside (Dequeue 0) (found order) ∷ []) result }
 {
     match tx.queue_dequeue(ORDERS) {
         Ok(order) => Ok(order),
@@ -27,7 +27,7 @@ pub(crate) fn take_order(tx: &mut StoreTx<'_, Bank>) -> Result<Option<u64>, Body
 pub(crate) fn add_order(tx: &mut StoreTx<'_, Bank>, order: u64) -> Result<(), BodyStop>
     requires ready { IsReady tx.old }
     requires order { order < 2 ^ 64 - 1 }
-    ensures { Acts tx.old tx.new (λ _. outside (Enqueue 0 order) Nothing ∷ []) result }
+    ensures { Acts NoMap tx.old tx.new (λ _. outside (Enqueue 0 order) Nothing ∷ []) result }
 {
     match tx.queue_enqueue(ORDERS, order) {
         Ok(()) => Ok(()),
@@ -43,7 +43,7 @@ pub(crate) fn look(
 ) -> Result<Option<u64>, BodyStop>
     requires ready { IsReady tx.old }
     requires account { (map < 2) × (account < 4) }
-    ensures { Acts tx.old tx.new (λ there. outside (MapGet map account) (found there) ∷ []) result }
+    ensures { Acts NoMap tx.old tx.new (λ there. outside (MapGet map account) (found there) ∷ []) result }
 {
     match tx.map_get(map, account) {
         Ok(there) => Ok(there),
@@ -61,7 +61,7 @@ pub(crate) fn set(
     requires ready { IsReady tx.old }
     requires account { (map < 2) × (account < 4) }
     requires amount { amount < 2 ^ 64 - 1 }
-    ensures { Acts tx.old tx.new (λ _. outside (MapPut map account amount) Nothing ∷ []) result }
+    ensures { Acts NoMap tx.old tx.new (λ _. outside (MapPut map account amount) Nothing ∷ []) result }
 {
     match tx.map_put(map, account, amount) {
         Ok(()) => Ok(()),
@@ -73,7 +73,7 @@ pub(crate) fn set(
 pub(crate) fn add_receipt(tx: &mut StoreTx<'_, Bank>, amount: u64) -> Result<(), BodyStop>
     requires ready { IsReady tx.old }
     requires amount { amount < 2 ^ 64 - 1 }
-    ensures { Acts tx.old tx.new (λ _. outside (Append 0 amount) Nothing ∷ []) result }
+    ensures { Acts NoMap tx.old tx.new (λ _. outside (Append 0 amount) Nothing ∷ []) result }
 {
     match tx.log_append(RECEIPTS, amount) {
         Ok(()) => Ok(()),

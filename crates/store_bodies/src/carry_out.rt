@@ -3,7 +3,7 @@ ghost use Rattle.std.specs.Prelude.{◌≡◌, ◌-◌, ◌^◌, ◌<◌, ◌≤
 ghost use Rattle.serial_terms.specs.declared.call.Call.TheVariants.{MapGet};
 ghost use Rattle.serial_terms.specs.Renaming.{by_key};
 ghost use Rattle.serial_terms.specs.Serial.{outside, found};
-ghost use Rattle.tx_store.specs.Bodies.{Acts};
+ghost use Rattle.tx_store.specs.Bodies.{NoMap, Acts};
 ghost use Rattle.tx_store.specs.Runs.{IsFresh};
 ghost use Rattle.store_bodies.specs.Attempts.{IsReady, IsBankStore};
 ghost use Rattle.store_bodies.specs.Bank.{balance};
@@ -45,6 +45,8 @@ impl Body<Bank> for CarryOut {
 
     ghost runs = { λ _ calls progress. calls ≡ calls_of progress };
 
+    ghost keys_full = { λ _. NoMap };
+
     fn body(&mut self, _: Global, tx: &mut StoreTx<'_, Bank>) -> Result<Progress, BodyStop> {
         carry_out(tx)
     }
@@ -53,7 +55,7 @@ impl Body<Bank> for CarryOut {
 fn carry_out(tx: &mut StoreTx<'_, Bank>) -> Result<Progress, BodyStop>
     requires ready { IsReady tx.old }
     requires fresh { IsFresh tx.old.attempt }
-    ensures acts { Acts tx.old tx.new calls_of result }
+    ensures acts { Acts NoMap tx.old tx.new calls_of result }
     ensures there { IfOk result WasThere }
 {
     let Some(order) = take_order(tx)? else {
@@ -89,7 +91,7 @@ fn look_at_both(
     order: u64,
 ) -> Result<(Option<u64>, Option<u64>), BodyStop>
     requires ready { IsReady tx.old }
-    ensures { Acts tx.old tx.new (λ both. outside (MapGet 0 (sender_in order)) (found both.0) ∷ outside (MapGet 1 (receiver_in order)) (found both.1) ∷ []) result }
+    ensures { Acts NoMap tx.old tx.new (λ both. outside (MapGet 0 (sender_in order)) (found both.0) ∷ outside (MapGet 1 (receiver_in order)) (found both.1) ∷ []) result }
 {
     let sender = look(tx, SENDERS, order % 4)?;
     let receiver = look(tx, RECEIVERS, order / 4 % 4)?;
@@ -100,7 +102,7 @@ fn look_at_both(
 fn move_amount(tx: &mut StoreTx<'_, Bank>, asked: Asked) -> Result<(), BodyStop>
     requires ready { IsReady tx.old }
     requires there { (amount_in asked.order ≤ balance asked.sender) × (balance asked.sender ≤ 800) × (balance asked.receiver ≤ 800) }
-    ensures { Acts tx.old tx.new (λ _. moves asked) result }
+    ensures { Acts NoMap tx.old tx.new (λ _. moves asked) result }
 {
     let (order, amount) = (asked.order, asked.order / 16);
     let sender = has(asked.sender);

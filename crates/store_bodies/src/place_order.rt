@@ -3,6 +3,7 @@ ghost use Rattle.std.specs.Prelude.{◌≡◌, ◌+◌, ◌*◌, ◌-◌, ◌^�
 ghost use Rattle.serial_terms.specs.declared.call.Call.TheVariants.{Enqueue};
 ghost use Rattle.serial_terms.specs.declared.call.Reply.TheVariants.{Nothing};
 ghost use Rattle.serial_terms.specs.Serial.{outside};
+ghost use Rattle.tx_store.specs.Bodies.{NoMap};
 ghost use Rattle.store_bodies.specs.Attempts.{IsBankStore};
 
 use crate::bank::Bank;
@@ -23,6 +24,8 @@ impl Body<Bank> for PlaceOrder {
     ghost can_run = { λ body store. IsBankStore store × (body.order < 2 ^ 64 - 1) };
 
     ghost runs = { λ body calls _. calls ≡ outside (Enqueue 0 body.order) Nothing ∷ [] };
+
+    ghost keys_full = { λ _. NoMap };
 
     fn body(&mut self, _: Global, tx: &mut StoreTx<'_, Bank>) -> Result<(), BodyStop> {
         add_order(tx, self.order)

@@ -13,7 +13,7 @@ use Rattle.tx_core.specs.declared.stop.Stop.{Stop}
 use Rattle.tx_core.specs.declared.stop.Stop.TheVariants.{Memory}
 use Rattle.tx_nest.specs.AttemptLaws.{stays_then, stopped_then}
 use Rattle.tx_store.specs.declared.run.BodyStop.TheVariants as stops
-use Rattle.tx_store.specs.Bodies.{Acts, in_body}
+use Rattle.tx_store.specs.Bodies.{NoMap, Acts, in_body}
 use Rattle.tx_store.specs.BodyFacts.{by_key_append, same_then, same_called, stops_after, stops_called}
 use Rattle.tx_store.specs.Calls.{IsCalled, done_in}
 use Rattle.tx_store.specs.ChildLaws.{keys_same, grows_then, called_in_child, stopped_in_child}
@@ -81,7 +81,7 @@ module _ {M : Type 0} where
   stopped_later a b d xs stop x y = record {
     went = went_then a b d x.went y.went;
     state = y.state ∙ ap stopped_from x.state;
-    cause = (stops_after a b d (stops.Stop stop) x.went.same (record { same = y.went.same; cause = y.cause })).cause;
+    cause = (stops_after {full = NoMap} a b d (stops.Stop stop) x.went.same (record { same = y.went.same; cause = y.cause; full = tt })).cause;
     child = λ is_child has. let p = x.went.child has in stopped_then (view_of a) (view_of b) (view_of d) stop p.0 (y.child (x.state ∙ is_child) p.1);
   }
 
@@ -104,7 +104,7 @@ module _ {M : Type 0} where
       record {
         went = went;
         state = is.holds.ends.state;
-        cause = (stops_called (IsCellOf s o) n a b stop is.holds went.same).cause;
+        cause = (stops_called {full = NoMap} (IsCellOf s o) n a b stop is.holds went.same).cause;
         child = λ is_child has. stopped_in_child s o n a b [] stop is is_child;
       }
 
@@ -120,10 +120,10 @@ module _ {M : Type 0} where
   ends_remembered s o n a b told (Err memory) early is = stopped_called s o n a b Memory early is
 
   -- of the attempt of a body
-  pub acts : {A : Type 0} (a b : TxView M) (calls : A → List Done) (result : Result A Stop) → Ends a b calls result → Acts a b calls (in_body result)
-  acts a b calls (Ok answer) x = record {
+  pub acts : {A : Type 0} (full : ℕ → ℕ → Type 0) (a b : TxView M) (calls : A → List Done) (result : Result A Stop) → Ends a b calls result → Acts full a b calls (in_body result)
+  acts full a b calls (Ok answer) x = record {
     same = x.went.same;
     state = x.state;
     noted = ap by_key x.notes ∙ (by_key_append a.attempt.notes x.added ∙ ap (λ (ds : List Done). by_key a.attempt.notes ++ ds) x.are);
   }
-  acts a b calls (Err stop) x = record { same = x.went.same; cause = x.cause }
+  acts full a b calls (Err stop) x = record { same = x.went.same; cause = x.cause; full = tt }

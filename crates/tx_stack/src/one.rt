@@ -2,6 +2,7 @@
 ghost use Rattle.std.specs.Prelude.{◌≡◌, ◌<◌, ◌≤◌, IfOk, IfErr};
 ghost use Rattle.cell_table.specs.Pass.{IsSole};
 ghost use Rattle.cell_table.specs.Steps.{IsIdle};
+ghost use Rattle.tx_store.specs.Bodies.{NoMap};
 ghost use Rattle.tx_store.specs.Known.{Vouches};
 ghost use Rattle.tx_store.specs.Resolves.{parts_of};
 ghost use Rattle.tx_store.specs.Runs.{IsLeft, AfterFewer, IsAnswered, IsCommittedRun, IsRefusedRun, IsNotSpent};
@@ -28,6 +29,8 @@ impl Body<Stacks> for Pushes {
 
     ghost runs = { λ b calls added. IsCallAlone b.part (pushes b.value) (IsPutOn b.part.capacity) calls added };
 
+    ghost keys_full = { λ _. NoMap };
+
     fn body(&mut self, _: Global, tx: &mut StoreTx<'_, Stacks>) -> Result<bool, BodyStop> {
         Ok(self.part.push(tx, self.value)?)
     }
@@ -45,6 +48,8 @@ impl Body<Stacks> for Pops {
     ghost can_run = { λ b store. IsStackOf store b.part };
 
     ghost runs = { λ b calls item. IsCallAlone b.part pops (IsItemOf b.part.capacity) calls item };
+
+    ghost keys_full = { λ _. NoMap };
 
     fn body(&mut self, _: Global, tx: &mut StoreTx<'_, Stacks>) -> Result<Option<u64>, BodyStop> {
         Ok(self.part.pop(tx)?)

@@ -5,12 +5,17 @@ use Rattle.serial_terms.specs.declared.call.Done.{Done}
 use Rattle.serial_terms.specs.Renaming.{NamedDone}
 use Rattle.std.specs.Prelude.{List}
 use Rattle.serial_terms.specs.Sights.{Seen}
+use Rattle.tx_core.specs.declared.stop.Stop.TheVariants.{Held, Newer, Memory}
 use Rattle.tx_core.specs.Facts.{grows_trans}
+use Rattle.tx_store.specs.declared.commit.CommitEnd.{CommitEnd}
+use Rattle.tx_store.specs.declared.commit.CommitEnd.TheVariants as commits
+use Rattle.tx_store.specs.declared.run.BodyStop.{BodyStop}
+use Rattle.tx_store.specs.declared.run.BodyStop.TheVariants as stops
 use Rattle.tx_store.specs.declared.run.RunEnd.{RunEnd}
 use Rattle.tx_store.specs.declared.run.RunEnd.TheVariants as run_ends
 use Rattle.tx_store.specs.ChildLaws.{keys_then}
 use Rattle.tx_nest.specs.AttemptLaws.{grew_trans}
-use Rattle.tx_store.specs.Runs.{IsLeft, AfterFewer, IsAnswered, IsLastEnd, IsRefusedRun, IsCommittedRun}
+use Rattle.tx_store.specs.Runs.{IsLeft, AfterFewer, IsAnswered, IsLastEnd, IsRefusedRun, IsCommittedRun, IfStopKeysFull, IfTryKeysFull, IfEndKeysFull, after_stop, after_refusal}
 use Rattle.tx_store.specs.Stores.{StoreView, PassView}
 
 module _ {M : Type 0} where
@@ -57,3 +62,25 @@ module _ {M : Type 0} where
   refused_as Saw parts answered tries p q (run_ends.Full part values adding) is = is
   refused_as Saw parts answered tries p q (run_ends.KeysFull map capacity) is = is
   refused_as Saw parts answered tries p q run_ends.Memory is = is
+
+-- ---- ends for want of room for a key
+
+module _ (full : ℕ → ℕ → Type 0) where
+  pub stopped_full : (stop : BodyStop) → IfStopKeysFull full stop → IfTryKeysFull full (after_stop stop)
+  stopped_full (stops.Stop (Held cell owner)) is = tt
+  stopped_full (stops.Stop (Newer cell found)) is = tt
+  stopped_full (stops.Stop Memory) is = tt
+  stopped_full (stops.KeysFull map capacity) is = is
+
+  -- a commit doesn't end so
+  pub refused_full : (end : CommitEnd) → IfTryKeysFull full (after_refusal end)
+  refused_full (commits.Held cell owner) = tt
+  refused_full (commits.Newer cell found) = tt
+  refused_full (commits.Full part values adding) = tt
+
+  -- a map for which one body may stop, an earlier one may stop for
+  pub full_by : (earlier : ℕ → ℕ → Type 0) (end : RunEnd) → ((map capacity : ℕ) → full map capacity → earlier map capacity) → IfEndKeysFull full end → IfEndKeysFull earlier end
+  full_by earlier (run_ends.Spent n last) same is = tt
+  full_by earlier (run_ends.Full part values adding) same is = tt
+  full_by earlier (run_ends.KeysFull map capacity) same is = same map capacity is
+  full_by earlier run_ends.Memory same is = tt

@@ -10,7 +10,7 @@ use Rattle.tx_nest.specs.declared.tries.NestEnd.{NestEnd}
 use Rattle.tx_nest.specs.declared.tries.NestEnd.TheVariants as nests
 use Rattle.tx_store.specs.declared.run.BodyStop.{BodyStop}
 use Rattle.tx_store.specs.declared.run.BodyStop.TheVariants as stops
-use Rattle.tx_store.specs.Runs.{IsSameAttempt, IsBodyStop}
+use Rattle.tx_store.specs.Runs.{IsSameAttempt, IsBodyStop, IfStopKeysFull}
 use Rattle.tx_store.specs.Stores.{TxView}
 
 -- what a call answered, as a body hands it on
@@ -42,6 +42,18 @@ abbrev pub nest_in_body : {A : Type 0} → Result A NestEnd → Result A BodySto
 nest_in_body (Ok answer) = Ok answer
 nest_in_body (Err end) = Err (of_nest end)
 
+-- ---- the maps for which a body may stop
+
+-- it stops for none
+abbrev pub NoMap : ℕ → ℕ → Type 0
+NoMap map capacity = ⊥
+
+-- it may stop for any
+abbrev pub AnyMap : ℕ → ℕ → Type 0
+AnyMap map capacity = Unit {0}
+
+-- ---- what calls leave
+
 module _ {M : Type 0} (old new : TxView M) where
   -- these calls were answered, and further ones may follow
   pub record Does (calls : List Done) : Type 0 where
@@ -49,12 +61,14 @@ module _ {M : Type 0} (old new : TxView M) where
     pub state : new.attempt.state ≡ old.attempt.state
     pub noted : by_key new.attempt.notes ≡ by_key old.attempt.notes ++ calls
 
-  -- a call was stopped
+module _ {M : Type 0} (keys_full : ℕ → ℕ → Type 0) (old new : TxView M) where
+  -- a call was stopped: for want of room for a key only where `keys_full` says so of the map and its capacity
   pub record StopsWith (stop : BodyStop) : Type 0 where
     pub same : IsSameAttempt old new
     pub cause : IsBodyStop old new stop
+    pub full : IfStopKeysFull keys_full stop
 
   -- by how they end
   abbrev pub Acts : {A : Type 0} → (A → List Done) → Result A BodyStop → Type 0
-  Acts calls (Ok answer) = Does (calls answer)
+  Acts calls (Ok answer) = Does old new (calls answer)
   Acts calls (Err stop) = StopsWith stop

@@ -32,11 +32,17 @@ use Rattle.tx_nest.specs.AttemptLaws.{grew_trans}
 use Rattle.tx_nest.specs.Ends.{Grew}
 use Rattle.tx_store.specs.Children.{Fixed, KeysGrow, GrowsOn, view_of}
 use Rattle.tx_store.specs.MapCalls.{Told, IsCalledWithKey}
-use Rattle.tx_store.specs.Runs.{IsSameAttempt, IsStopBetween, IsFullBetween, IsBodyStop}
+use Rattle.tx_store.specs.Runs.{IsSameAttempt, IsStopBetween, IsFullBetween, IsBodyStop, IfStopKeysFull}
 use Rattle.tx_store.specs.Stores.{TxView}
 
 pub longer : {A : Type 0} (t u : List A) → (more : List A) × (u ≡ t ++ more) → length t ≤ length u
 longer t u a = let e = ap length a.1 in omega (arith, length-append t a.0)
+
+-- children stop for want of room for no key
+pub nested_full : (full : ℕ → ℕ → Type 0) (end : NestEnd) → IfStopKeysFull full (of_nest end)
+nested_full full (nests.Parent stop) = tt
+nested_full full (nests.Spent n last) = tt
+nested_full full nests.Memory = tt
 
 pub grew_all : (t : List Event) → Grew t t
 grew_all t = ([], sym (append-nil t))
@@ -159,8 +165,8 @@ module _ {M : Type 0} where
   body_stop_after a b d (stops.Stop stop) same is = stop_after a b d stop same is
   body_stop_after a b d (stops.KeysFull map capacity) same is = full_after a.keys b.keys d.keys map capacity same.keys is
 
-  pub stops_after : (a b d : TxView M) (stop : BodyStop) → IsSameAttempt a b → StopsWith b d stop → StopsWith a d stop
-  stops_after a b d stop same is = record { same = same_then a b d same is.same; cause = body_stop_after a b d stop same is.cause }
+  pub stops_after : {full : ℕ → ℕ → Type 0} (a b d : TxView M) (stop : BodyStop) → IsSameAttempt a b → StopsWith full b d stop → StopsWith full a d stop
+  stops_after a b d stop same is = record { same = same_then a b d same is.same; cause = body_stop_after a b d stop same is.cause; full = is.full }
 
   -- ---- one call, and one after another
 
@@ -174,46 +180,47 @@ module _ {M : Type 0} where
     noted = y.noted ∙ (ap (λ (ds : List Done). ds ++ ys) x.noted ∙ append_assoc (by_key a.attempt.notes) xs ys);
   }
 
-  pub acts_then : {A : Type 0} (a b d : TxView M) (xs : List Done) (calls : A → List Done) (result : Result A BodyStop) → Does a b xs → Acts b d calls result → Acts a d (λ answer. xs ++ calls answer) result
-  acts_then a b d xs calls (Ok answer) first next = does_then a b d xs (calls answer) first next
-  acts_then a b d xs calls (Err stop) first next = stops_after a b d stop first.same next
+  pub acts_then : {A : Type 0} (full : ℕ → ℕ → Type 0) (a b d : TxView M) (xs : List Done) (calls : A → List Done) (result : Result A BodyStop) → Does a b xs → Acts full b d calls result → Acts full a d (λ answer. xs ++ calls answer) result
+  acts_then full a b d xs calls (Ok answer) first next = does_then a b d xs (calls answer) first next
+  acts_then full a b d xs calls (Err stop) first next = stops_after a b d stop first.same next
 
   pub does_noted : (a b : TxView M) (d : NamedDone) → IsSameAttempt a b → b.attempt.state ≡ a.attempt.state → b.attempt.notes ≡ a.attempt.notes ++ d ∷ [] → Does a b (d.done ∷ [])
   does_noted a b d same state notes = record { same = same; state = state; noted = ap by_key notes ∙ by_key_more a.attempt.notes d }
 
-  pub stops_at : (P : ℕ → Type 0) (a b : TxView M) (stop : Stop) → StopsAt P a.attempt b.attempt stop → IsSameAttempt a b → StopsWith a b (stops.Stop stop)
+  pub stops_at : {full : ℕ → ℕ → Type 0} (P : ℕ → Type 0) (a b : TxView M) (stop : Stop) → StopsAt P a.attempt b.attempt stop → IsSameAttempt a b → StopsWith full a b (stops.Stop stop)
   stops_at P a b stop ends same = record {
     same = same;
     cause = record { version = a.attempt.version; low = omega arith; high = same.version; caused = ends.cause; sole = ends.sole };
+    full = tt;
   }
 
-  pub stops_called : (P : ℕ → Type 0) (n : ℕ) (a b : TxView M) (stop : Stop) → HoldsAt P n a.attempt b.attempt (Some stop) → IsSameAttempt a b → StopsWith a b (stops.Stop stop)
+  pub stops_called : {full : ℕ → ℕ → Type 0} (P : ℕ → Type 0) (n : ℕ) (a b : TxView M) (stop : Stop) → HoldsAt P n a.attempt b.attempt (Some stop) → IsSameAttempt a b → StopsWith full a b (stops.Stop stop)
   stops_called P n a b stop holds same = stops_at P a b stop holds.ends same
 
   keys_stay : (a b : TxView M) → b.keys ≡ a.keys → KeysGrow a.keys b.keys
   keys_stay a b same = subst (λ (k : PassView). KeysGrow a.keys k) (sym same) (keys_all a.keys)
 
   -- a call on a structure that has no keys
-  pub acts_called : {A : Type 0} (s : Shape) (o : Object) (n : ℕ) (a b : TxView M) (told : A → NamedDone) (result : Result A Stop) → a.attempt.committing ≡ false
-      → IsCalled s o n a b (done_in told result) (stop_in result) → Acts a b (λ answer. (told answer).done ∷ []) (in_body result)
-  acts_called s o n a b told (Ok answer) early is =
+  pub acts_called : {A : Type 0} (full : ℕ → ℕ → Type 0) (s : Shape) (o : Object) (n : ℕ) (a b : TxView M) (told : A → NamedDone) (result : Result A Stop) → a.attempt.committing ≡ false
+      → IsCalled s o n a b (done_in told result) (stop_in result) → Acts full a b (λ answer. (told answer).done ∷ []) (in_body result)
+  acts_called full s o n a b told (Ok answer) early is =
       does_noted a b (told answer) (same_called (IsCellOf s o) n a b None is.holds is.same.store (is.same.committing ∙ early) (keys_stay a b is.same.keys)) is.holds.ends is.notes
-  acts_called s o n a b told (Err stop) early is =
+  acts_called full s o n a b told (Err stop) early is =
       stops_called (IsCellOf s o) n a b stop is.holds (same_called (IsCellOf s o) n a b (Some stop) is.holds is.same.store (is.same.committing ∙ early) (keys_stay a b is.same.keys))
 
-  pub acts_remembered : {A E : Type 0} (s : Shape) (o : Object) (n : ℕ) (a b : TxView M) (told : A → NamedDone) (result : Result A E) → a.attempt.committing ≡ false
-      → IsCalled s o n a b (done_in told result) (memory_in result) → Acts a b (λ answer. (told answer).done ∷ []) (memory_in_body result)
-  acts_remembered s o n a b told (Ok answer) early is =
+  pub acts_remembered : {A E : Type 0} (full : ℕ → ℕ → Type 0) (s : Shape) (o : Object) (n : ℕ) (a b : TxView M) (told : A → NamedDone) (result : Result A E) → a.attempt.committing ≡ false
+      → IsCalled s o n a b (done_in told result) (memory_in result) → Acts full a b (λ answer. (told answer).done ∷ []) (memory_in_body result)
+  acts_remembered full s o n a b told (Ok answer) early is =
       does_noted a b (told answer) (same_called (IsCellOf s o) n a b None is.holds is.same.store (is.same.committing ∙ early) (keys_stay a b is.same.keys)) is.holds.ends is.notes
-  acts_remembered s o n a b told (Err memory) early is =
+  acts_remembered full s o n a b told (Err memory) early is =
       stops_called (IsCellOf s o) n a b Memory is.holds (same_called (IsCellOf s o) n a b (Some Memory) is.holds is.same.store (is.same.committing ∙ early) (keys_stay a b is.same.keys))
 
-  -- a call on a map
-  pub acts_keyed : {A : Type 0} (passes : ℕ → ℕ → Type 0) (s : Shape) (m key n : ℕ) (a b : TxView M) (told : A → Told) (result : Result A MapStop) → a.attempt.committing ≡ false
-      → IsCalledWithKey passes s m key n a b told result → Acts a b (λ answer. done_of (told answer) (in_child a.attempt.state) ∷ []) (map_in_body m result)
-  acts_keyed passes s m key n a b told (Ok answer) early is = does_noted a b _ (same_keyed passes s m key n a b told (Ok answer) early is) is.looks.ends is.notes
-  acts_keyed passes s m key n a b told (Err (maps.Stop stop)) early is = stops_at _ a b stop is.looks.ends (same_keyed passes s m key n a b told (Err (maps.Stop stop)) early is)
-  acts_keyed passes s m key n a b told (Err (maps.KeysFull capacity)) early is =
+  -- a call on a map, which stops for want of room for its key only where the body may
+  pub acts_keyed : {A : Type 0} (full : ℕ → ℕ → Type 0) (passes : ℕ → ℕ → Type 0) (s : Shape) (m key n : ℕ) (a b : TxView M) (told : A → Told) (result : Result A MapStop) → a.attempt.committing ≡ false
+      → ((capacity : ℕ) → result ≡ Err (maps.KeysFull capacity) → full m capacity) → IsCalledWithKey passes s m key n a b told result → Acts full a b (λ answer. done_of (told answer) (in_child a.attempt.state) ∷ []) (map_in_body m result)
+  acts_keyed full passes s m key n a b told (Ok answer) early may is = does_noted a b _ (same_keyed passes s m key n a b told (Ok answer) early is) is.looks.ends is.notes
+  acts_keyed full passes s m key n a b told (Err (maps.Stop stop)) early may is = stops_at _ a b stop is.looks.ends (same_keyed passes s m key n a b told (Err (maps.Stop stop)) early is)
+  acts_keyed full passes s m key n a b told (Err (maps.KeysFull capacity)) early may is =
       let same = same_keyed passes s m key n a b told (Err (maps.KeysFull capacity)) early is in
       let since = steps_since a.keys b.keys in
       record {
@@ -228,6 +235,7 @@ module _ {M : Type 0} where
           since = omega arith;
           others = subst (λ (d : DirectoryView). AreAllOthers d.capacities since m key) (sym same.keys.directory) (is.keys.full.0 tt);
         };
+        full = may capacity refl;
       }
 
   -- ---- children
@@ -271,6 +279,6 @@ module _ {M : Type 0} where
   }
 
   -- where none was committed, the body may stop with the cause
-  pub stops_nested : (tries : ℕ) (ran_out : Type 0) (a b : TxView M) → GoesOn (view_of a) (view_of b) → GrowsOn a b → (end : NestEnd) → (IsSole a.attempt.pass → end ≡ nests.Memory)
-      → EndsAs tries ran_out (view_of a) (view_of b) end → StopsWith a b (of_nest end)
-  stops_nested tries ran_out a b goes grows end sole ends = record { same = same_nested a b goes grows; cause = nested_cause tries ran_out a b goes end sole ends }
+  pub stops_nested : {full : ℕ → ℕ → Type 0} (tries : ℕ) (ran_out : Type 0) (a b : TxView M) → GoesOn (view_of a) (view_of b) → GrowsOn a b → (end : NestEnd) → (IsSole a.attempt.pass → end ≡ nests.Memory)
+      → EndsAs tries ran_out (view_of a) (view_of b) end → StopsWith full a b (of_nest end)
+  stops_nested tries ran_out a b goes grows end sole ends = record { same = same_nested a b goes grows; cause = nested_cause tries ran_out a b goes end sole ends; full = nested_full _ end }

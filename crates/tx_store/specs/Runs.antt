@@ -81,6 +81,11 @@ module _ {M : Type 0} where
   IsBodyStop old new (stops.Stop stop) = IsStopBetween old.attempt new.attempt stop
   IsBodyStop old new (stops.KeysFull map capacity) = IsFullBetween old.keys new.keys map capacity
 
+-- a stop for want of room for a key is one for which the body may stop
+abbrev pub IfStopKeysFull : (ℕ → ℕ → Type 0) → BodyStop → Type 0
+IfStopKeysFull full (stops.Stop stop) = Unit {0}
+IfStopKeysFull full (stops.KeysFull map capacity) = full map capacity
+
 -- ---- the attempts of one call
 
 -- The calls with which a body answered: a record may have them, by their keys and by the keys' positions, and the body may run so
@@ -178,6 +183,17 @@ IsNotSpent (run_ends.Spent n last) = ⊥
 IsNotSpent (run_ends.Full part values adding) = Unit {0}
 IsNotSpent (run_ends.KeysFull map capacity) = Unit {0}
 IsNotSpent run_ends.Memory = Unit {0}
+
+-- an end for want of room for a key is one for which the body may stop
+abbrev pub IfEndKeysFull : (ℕ → ℕ → Type 0) → RunEnd → Type 0
+IfEndKeysFull full (run_ends.Spent n last) = Unit {0}
+IfEndKeysFull full (run_ends.Full part values adding) = Unit {0}
+IfEndKeysFull full (run_ends.KeysFull map capacity) = full map capacity
+IfEndKeysFull full run_ends.Memory = Unit {0}
+
+abbrev pub IfTryKeysFull : (ℕ → ℕ → Type 0) → TryEnd → Type 0
+IfTryKeysFull full (Again stop) = Unit {0}
+IfTryKeysFull full (Ends end) = IfEndKeysFull full end
 
 -- ---- how one attempt ends the call, or is tried again
 

@@ -1,5 +1,5 @@
 //! Whole transactions, tried again.
-ghost use Rattle.std.specs.Prelude.{◌≡◌, ◌<◌, ◌≤◌, List, IfOk, IfErr};
+ghost use Rattle.std.specs.Prelude.{◌≡◌, ℕ, ◌<◌, ◌≤◌, List, IfOk, IfErr};
 ghost use Rattle.cell_table.specs.Pass.{IsSole};
 ghost use Rattle.cell_table.specs.Steps.{IsIdle};
 ghost use Rattle.serial_terms.specs.declared.call.Done.{Done};
@@ -8,7 +8,7 @@ ghost use Rattle.store_meaning.specs.declared.meaning.StoreMeaning.{StoreMeaning
 ghost use Rattle.tx_core.specs.declared.stop.TxState.TheVariants.{Running};
 ghost use Rattle.tx_store.specs.Known.{Vouches};
 ghost use Rattle.tx_store.specs.Resolves.{parts_of};
-ghost use Rattle.tx_store.specs.Runs.{IsFresh, IsSameAttempt, IsBodyStop, IsLeft, AfterFewer, IsCommittedRun, IsRefusedRun, IsNotSpent, IsTryEnd, IsNotAgain, IsAnswered, after_stop, after_refusal};
+ghost use Rattle.tx_store.specs.Runs.{IsFresh, IsSameAttempt, IsBodyStop, IsLeft, AfterFewer, IsCommittedRun, IsRefusedRun, IsNotSpent, IsTryEnd, IsNotAgain, IsAnswered, IfStopKeysFull, IfTryKeysFull, IfEndKeysFull, after_stop, after_refusal};
 ghost use Rattle.tx_store.specs.Stores.{StoreView, IsPassOfStore};
 
 use crate::commit::CommitEnd;
@@ -105,6 +105,9 @@ pub trait Body<P: Purpose> {
     /// The calls of a run, by their keys, and what it answers.
     ghost runs: { Self → List Done → Self.Out → Type 0 };
 
+    /// With which map and capacity a run may stop for want of room for a key.
+    ghost keys_full: { Self → ℕ → ℕ → Type 0 };
+
     /// Runs in an attempt, which it doesn't end. What it did is to be allowed by the purpose once it answers Ok. A Held or Newer
     /// that it answers was found by a call of this attempt, and so was a full map; its Memory is free.
     fn body(&mut self, alloc: Global, tx: &mut StoreTx<'_, P>) -> Result<Self::Out, BodyStop>
@@ -113,8 +116,10 @@ pub trait Body<P: Purpose> {
         ensures same { IsSameAttempt tx.old tx.new }
         ensures ok { IfOk result (λ out. (tx.new.attempt.state ≡ Running) × P.allowed tx.old.store.table.meaning.purpose (by_key tx.new.attempt.notes) × runs self.old (by_key tx.new.attempt.notes) out) }
         ensures stopped { IfErr result (IsBodyStop tx.old tx.new) }
+        ensures full { IfErr result (IfStopKeysFull (keys_full self.old)) }
         ensures again { can_run self.new tx.old.store }
-        ensures same_relation { (calls : List Done) (out : Self.Out) → runs self.new calls out → runs self.old calls out };
+        ensures same_relation { (calls : List Done) (out : Self.Out) → runs self.new calls out → runs self.old calls out }
+        ensures same_maps { (map capacity : ℕ) → keys_full self.new map capacity → keys_full self.old map capacity };
 }
 
 /// Runs the body in attempts until one is committed, `tries` attempts at most.
@@ -137,8 +142,10 @@ pub fn atomically<P: Purpose, B: Body<P>>(
     ensures left { IfOk result (λ r. IsLeft store.now tries pass r.0) }
     ensures left_refused { IfErr result (λ r. IsLeft store.now tries pass r.0) }
     ensures sole { IsSole pass.pass → IfErr result (λ r. IsNotSpent r.1) }
+    ensures full { IfErr result (λ r. IfEndKeysFull (B.keys_full body.old) r.1) }
     ensures again { B.can_run body.new store.now }
     ensures same_relation { (calls : List Done) (out : B.Out) → B.runs body.new calls out → B.runs body.old calls out }
+    ensures same_maps { (map capacity : ℕ) → B.keys_full body.new map capacity → B.keys_full body.old map capacity }
 {
     let mut pass = pass;
     let mut last = Stop::Memory;
@@ -213,8 +220,10 @@ fn once<P: Purpose, B: Body<P>>(
     ensures left { IfOk result (λ r. IsLeft store.now 1 pass r.0) }
     ensures left_refused { IfErr result (λ r. IsLeft store.now 1 pass r.0) }
     ensures sole { IsSole pass.pass → IfErr result (λ r. IsNotAgain r.1) }
+    ensures full { IfErr result (λ r. IfTryKeysFull (B.keys_full body.old) r.1) }
     ensures again { B.can_run body.new store.now }
     ensures same_relation { (calls : List Done) (out : B.Out) → B.runs body.new calls out → B.runs body.old calls out }
+    ensures same_maps { (map capacity : ℕ) → B.keys_full body.new map capacity → B.keys_full body.old map capacity }
 {
     let mut tx = match StoreTx::begin(alloc, store, pass) {
         Ok(tx) => tx,

@@ -9,7 +9,7 @@ ghost use Rattle.run_purpose.specs.declared.item.Item.TheVariants.{Group};
 ghost use Rattle.run_bodies.specs.Matching.{IsDatagram, HasWalked, IsTakenOut, dequeued, word_taken, walking, linked_from};
 ghost use Rattle.run_bodies.specs.RunStores.{IsRunStore, work_of_run};
 ghost use Rattle.tx_core.specs.Calls.{MayCommit};
-ghost use Rattle.tx_store.specs.Bodies.{Acts, StopsWith};
+ghost use Rattle.tx_store.specs.Bodies.{NoMap, Acts, StopsWith};
 ghost use Rattle.tx_store.specs.Runs.{IsFresh};
 
 use crate::gate::{Gate, Kind, Point};
@@ -24,7 +24,7 @@ use tx_store::{BodyStop, StoreTx};
 fn dequeue(tx: &mut StoreTx<'_, RunPurpose<'_>>) -> Result<Option<u64>, BodyStop>
     requires running { MayCommit tx.old.attempt }
     requires queue { 0 < length tx.old.store.table.meaning.plan.queues }
-    ensures { Acts tx.old tx.new (λ value. outside (Dequeue 0) (found value) ∷ []) result }
+    ensures { Acts NoMap tx.old tx.new (λ value. outside (Dequeue 0) (found value) ∷ []) result }
 {
     match tx.queue_dequeue(0) {
         Ok(value) => Ok(value),
@@ -37,7 +37,7 @@ fn get(tx: &mut StoreTx<'_, RunPurpose<'_>>, map: u32, key: u32) -> Result<Optio
     requires running { MayCommit tx.old.attempt }
     requires map { map < length tx.old.store.table.meaning.plan.maps }
     requires key { key < get_or tx.old.store.table.meaning.plan.maps map 0 }
-    ensures { Acts tx.old tx.new (λ value. outside (MapGet map key) (found value) ∷ []) result }
+    ensures { Acts NoMap tx.old tx.new (λ value. outside (MapGet map key) (found value) ∷ []) result }
 {
     match tx.map_get(map, u64::from(key)) {
         Ok(value) => Ok(value),
@@ -50,7 +50,7 @@ fn remove(tx: &mut StoreTx<'_, RunPurpose<'_>>, map: u32, key: u32) -> Result<()
     requires running { MayCommit tx.old.attempt }
     requires map { map < length tx.old.store.table.meaning.plan.maps }
     requires key { key < get_or tx.old.store.table.meaning.plan.maps map 0 }
-    ensures { Acts tx.old tx.new (λ _. outside (MapRemove map key) Nothing ∷ []) result }
+    ensures { Acts NoMap tx.old tx.new (λ _. outside (MapRemove map key) Nothing ∷ []) result }
 {
     match tx.map_remove(map, u64::from(key)) {
         Ok(()) => Ok(()),
@@ -66,7 +66,7 @@ pub(crate) fn next_item<'b, G: Gate>(
 ) -> Result<Option<Item>, BodyStop>
     requires fresh { IsFresh tx.old.attempt }
     requires store { IsRunStore run.now tx.old.store }
-    ensures acts { Acts tx.old tx.new (λ item. dequeued item ∷ []) result }
+    ensures acts { Acts NoMap tx.old tx.new (λ item. dequeued item ∷ []) result }
     ensures datagram { IfOk result (λ item. IfSome item (IsDatagram (work_of_run run.now))) }
 {
     told_law(run, tx);
@@ -94,7 +94,7 @@ fn take_word<'b, G: Gate>(
     requires store { IsRunStore run.now tx.old.store }
     requires complete { IsComplete (work_of_run run.now) group }
     requires taken { by_key tx.old.attempt.notes ≡ dequeued (Some (Group group)) ∷ [] }
-    ensures { Acts tx.old tx.new (word_taken group) result }
+    ensures { Acts NoMap tx.old tx.new (word_taken group) result }
 {
     told_law(run, tx);
     tasks_have_facts_law();
@@ -125,7 +125,7 @@ fn follow_link<G: Gate>(
     requires running { MayCommit tx.old.attempt }
     requires map { 1 < length tx.old.store.table.meaning.plan.maps }
     requires key { task < get_or tx.old.store.table.meaning.plan.maps 1 0 }
-    ensures { Acts tx.old tx.new (linked_from task) result }
+    ensures { Acts NoMap tx.old tx.new (linked_from task) result }
 {
     let next = match get(tx, 1, task) {
         Ok(next) => next,
@@ -158,7 +158,7 @@ fn walk<'b, G: Gate>(
     requires taken { by_key tx.old.attempt.notes ≡ walking group word [] }
     requires empty { chain.old.items ≡ [] }
     ensures walked { OnOk result (HasWalked (work_of_run run.now) group word tx.old tx.new chain.new.items) }
-    ensures stopped { IfErr result (StopsWith tx.old tx.new) }
+    ensures stopped { IfErr result (StopsWith NoMap tx.old tx.new) }
 {
     told_law(run, tx);
     tasks_have_facts_law();
@@ -196,7 +196,7 @@ pub(crate) fn take_out<'b, G: Gate>(
     requires datagram { IsDatagram (work_of_run run.now) item }
     requires taken { by_key tx.old.attempt.notes ≡ dequeued (Some item) ∷ [] }
     ensures out { OnOk result (IsTakenOut (work_of_run run.now) item tx.old tx.new chain.new.items) }
-    ensures stopped { IfErr result (StopsWith tx.old tx.new) }
+    ensures stopped { IfErr result (StopsWith NoMap tx.old tx.new) }
 {
     match item {
         Item::Whole(_) => Ok(()),
@@ -217,7 +217,7 @@ fn take_group<'b, G: Gate>(
     requires complete { IsComplete (work_of_run run.now) group }
     requires taken { by_key tx.old.attempt.notes ≡ dequeued (Some (Group group)) ∷ [] }
     ensures out { OnOk result (IsTakenOut (work_of_run run.now) (Group group) tx.old tx.new chain.new.items) }
-    ensures stopped { IfErr result (StopsWith tx.old tx.new) }
+    ensures stopped { IfErr result (StopsWith NoMap tx.old tx.new) }
 {
     let word = match take_word(run, gate, tx, group) {
         Ok(word) => word,

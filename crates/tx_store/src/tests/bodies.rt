@@ -2,7 +2,8 @@
 ghost use Rattle.std.specs.Prelude.{◌≡◌, ◌-◌, ◌^◌, ◌<◌, length, IfOk, IfErr};
 ghost use Rattle.tx_core.specs.Calls.{MayCommit};
 ghost use Rattle.tx_core.specs.declared.stop.TxState.TheVariants.{Running};
-ghost use Rattle.tx_store.specs.Runs.{IsSameAttempt, IsBodyStop};
+ghost use Rattle.tx_store.specs.Bodies.{NoMap};
+ghost use Rattle.tx_store.specs.Runs.{IsSameAttempt, IsBodyStop, IfStopKeysFull};
 
 use crate::{Anything, Body, BodyStop, StoreTx};
 use std::alloc::{AllocError, Global};
@@ -23,6 +24,8 @@ impl Body<Anything> for Place {
 
     ghost runs = { λ _ _ _. Unit {0} };
 
+    ghost keys_full = { λ _. NoMap };
+
     fn body(&mut self, _: Global, tx: &mut StoreTx<'_, Anything>) -> Result<u64, BodyStop> {
         self.runs = self.runs.saturating_add(1);
         append_placed(tx, 1)
@@ -41,6 +44,8 @@ impl Body<Anything> for AddFive {
     ghost can_run = { λ _ store. 0 < length store.table.meaning.plan.logs };
 
     ghost runs = { λ _ _ _. Unit {0} };
+
+    ghost keys_full = { λ _. NoMap };
 
     fn body(&mut self, _: Global, tx: &mut StoreTx<'_, Anything>) -> Result<(), BodyStop> {
         self.runs = self.runs.saturating_add(1);
@@ -61,6 +66,8 @@ impl Body<Anything> for PutThird {
 
     ghost runs = { λ _ _ _. Unit {0} };
 
+    ghost keys_full = { λ _ map _. map ≡ 0 };
+
     fn body(&mut self, _: Global, tx: &mut StoreTx<'_, Anything>) -> Result<(), BodyStop> {
         self.runs = self.runs.saturating_add(1);
         put_third(tx)
@@ -80,6 +87,8 @@ impl Body<Anything> for RunOut {
 
     ghost runs = { λ _ _ _. Unit {0} };
 
+    ghost keys_full = { λ _. NoMap };
+
     fn body(&mut self, _: Global, _: &mut StoreTx<'_, Anything>) -> Result<(), BodyStop> {
         self.runs = self.runs.saturating_add(1);
         Err(BodyStop::Stop(Stop::Memory))
@@ -93,6 +102,7 @@ fn append_placed(tx: &mut Attempt<'_>, value: u64) -> Result<u64, BodyStop>
     ensures same { IsSameAttempt tx.old tx.new }
     ensures ok { IfOk result (λ _. tx.new.attempt.state ≡ Running) }
     ensures stopped { IfErr result (IsBodyStop tx.old tx.new) }
+    ensures no_map { IfErr result (IfStopKeysFull NoMap) }
 {
     match tx.log_append_placed(0, value) {
         Ok(place) => Ok(place),
@@ -106,6 +116,7 @@ fn append_five(tx: &mut Attempt<'_>) -> Result<(), BodyStop>
     ensures same { IsSameAttempt tx.old tx.new }
     ensures ok { IfOk result (λ _. tx.new.attempt.state ≡ Running) }
     ensures stopped { IfErr result (IsBodyStop tx.old tx.new) }
+    ensures no_map { IfErr result (IfStopKeysFull NoMap) }
 {
     for value in 0..5 {
         append(tx, value)?;
@@ -120,6 +131,7 @@ fn append(tx: &mut Attempt<'_>, value: u64) -> Result<(), BodyStop>
     ensures same { IsSameAttempt tx.old tx.new }
     ensures ok { IfOk result (λ _. tx.new.attempt.state ≡ Running) }
     ensures stopped { IfErr result (IsBodyStop tx.old tx.new) }
+    ensures no_map { IfErr result (IfStopKeysFull NoMap) }
 {
     match tx.log_append(0, value) {
         Ok(()) => Ok(()),
@@ -133,6 +145,7 @@ fn put_third(tx: &mut Attempt<'_>) -> Result<(), BodyStop>
     ensures same { IsSameAttempt tx.old tx.new }
     ensures ok { IfOk result (λ _. tx.new.attempt.state ≡ Running) }
     ensures stopped { IfErr result (IsBodyStop tx.old tx.new) }
+    ensures map { IfErr result (IfStopKeysFull (λ map _. map ≡ 0)) }
 {
     match tx.map_put(0, 3, 30) {
         Ok(()) => Ok(()),

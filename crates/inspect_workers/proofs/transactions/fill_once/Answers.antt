@@ -16,6 +16,6 @@ returns-in-Ok-clause-filled c =
 pub returns-in-Err-clause-refused : goal.returns-in-Err-clause-refused
 returns-in-Err-clause-refused c = (
   c.in-Err.ensures.refused.0,
-  rw c.unkeyed.ensures (for_memory c.args.run.now c.args.store.now c.requires.store 1 c.args.pass c.in-Err.refused.0 c.tell_full.ensures (λ calls out. is_fill calls ≡ 1)
-      (λ notes out did. never_full (work_of_run c.args.run.now) notes did) c.in-Err.refused.1 (c.in-Err.ensures.sole c.requires.of.1) c.in-Err.ensures.refused.1),
+  for_memory c.args.run.now c.args.store.now c.requires.store 1 c.args.pass c.in-Err.refused.0 c.tell_full.ensures (λ calls out. is_fill calls ≡ 1)
+      (λ notes out did. never_full (work_of_run c.args.run.now) notes did) c.in-Err.refused.1 c.in-Err.ensures.full (c.in-Err.ensures.sole c.requires.of.1) c.in-Err.ensures.refused.1,
 )

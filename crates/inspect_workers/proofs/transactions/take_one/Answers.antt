@@ -1,6 +1,6 @@
 use Rattle.run_bodies.specs.Records.{TookTask}
 use Rattle.inspect_workers.proofs.Starting.{can_run}
-use Rattle.inspect_workers.proofs.Transacting.{adds_one, not_spent, refused_with}
+use Rattle.inspect_workers.proofs.Transacting.{adds_one, refused_with}
 use Rattle.inspect_workers.proofs.transactions.take_one.Goals as goal
 
 pub atomically-ended-requires-clause-can_run : goal.atomically-ended-requires-clause-can_run
@@ -11,7 +11,7 @@ returns-in-Ok-clause-committed g c = adds_one c.args.run.now c.args.store.now c.
 
 pub returns-in-Err-clause-refused : goal.returns-in-Err-clause-refused
 returns-in-Err-clause-refused g c =
-    rw c.unkeyed.ensures (refused_with c.args.run.now c.args.store.now c.requires.store c.args.tries c.args.pass c.in-Err.refused.0 c.tell_full.ensures TookTask c.in-Err.refused.1 c.in-Err.ensures.refused.0 c.in-Err.ensures.refused.1)
+    refused_with c.args.run.now c.args.store.now c.requires.store c.args.tries c.args.pass c.in-Err.refused.0 c.tell_full.ensures TookTask c.in-Err.refused.1 c.in-Err.ensures.full c.in-Err.ensures.refused.0 c.in-Err.ensures.refused.1
 
 pub returns-in-Err-clause-sole : goal.returns-in-Err-clause-sole
-returns-in-Err-clause-sole g c = λ alone. rw c.unkeyed.ensures (not_spent c.in-Err.refused.1 (c.in-Err.ensures.sole alone))
+returns-in-Err-clause-sole g c = c.in-Err.ensures.sole

@@ -1,8 +1,8 @@
 use Rattle.std.proofs.Common.{◌+◌, ◌∙◌, arith, add-one}
 use Rattle.tx_store.specs.Known.{Vouches}
 use Rattle.tx_store.specs.Resolves.{parts_of}
-use Rattle.tx_store.specs.Runs.{IsAnswered, IsLastEnd, IsTryEnd}
-use Rattle.tx_store.proofs.Trying.{left_then, alone_left, ran_by, last_by, refused_as}
+use Rattle.tx_store.specs.Runs.{IsAnswered, IsLastEnd, IsTryEnd, IfEndKeysFull, IfTryKeysFull}
+use Rattle.tx_store.proofs.Trying.{left_then, alone_left, ran_by, last_by, refused_as, full_by}
 use Rattle.tx_store.proofs.run.atomically.Goals as goal
 
 pub returns-in-Ok-clause-committed : goal.returns-in-Ok-clause-committed
@@ -46,6 +46,12 @@ returns-in-Ends-clause-left_refused g c =
     let low = c.loop-tried-test.true in
     left_then c.args.store.now c.loop-tried.tried 1 c.args.tries c.args.pass c.loop-tried.pass c.in-Err.refused.0 (omega arith) c.loop-tried.invariant.left c.in-Err.ensures.left_refused
 
+pub returns-in-Ends-clause-full : goal.returns-in-Ends-clause-full
+returns-in-Ends-clause-full g c =
+    let ended : IfTryKeysFull (g.B.Body.keys_full c.loop-tried.body) c.in-Err.refused.1 = c.in-Err.ensures.full in
+    let last : IfEndKeysFull (g.B.Body.keys_full c.loop-tried.body) c.in-Ends.end = rw c.in-Ends.is at ended in
+    full_by (g.B.Body.keys_full c.loop-tried.body) (g.B.Body.keys_full c.args.body.now) c.in-Ends.end c.loop-tried.invariant.same_maps last
+
 pub loop-tried-preserved : goal.loop-tried-preserved
 loop-tried-preserved g c =
     let so_far = c.loop-tried.invariant in
@@ -57,5 +63,6 @@ loop-tried-preserved g c =
       ended = rw add-one (c.loop-tried.pass, c.loop-tried.last, so_far.ended, ended);
       alone = λ alone. let no = c.in-Err.ensures.sole (alone_left c.args.store.now c.loop-tried.tried c.args.pass c.loop-tried.pass so_far.left alone) in absurd (rw c.in-Again.is at no);
       can_run = c.once.ensures.again;
+      same_maps = λ map capacity h. so_far.same_maps map capacity (c.once.ensures.same_maps map capacity h);
       same_relation = λ calls out h. so_far.same_relation calls out (c.once.ensures.same_relation calls out h);
     }

@@ -1,4 +1,4 @@
-use Rattle.std.proofs.Common.{◌≡◌}
+use Rattle.std.proofs.Common.{◌≡◌, ℕ}
 use Rattle.cell_table.specs.Pass.{IsSole}
 use Rattle.tx_store.specs.Known.{Vouches}
 use Rattle.tx_store.specs.Runs.{IsLeft, AttemptsEnded}
@@ -11,5 +11,6 @@ invariant-loop-tried g l = record {
   ended : AttemptsEnded (Vouches g.P.Purpose.lawful_state l.store.table.meaning) l.tried l.initial.pass l.last l.pass;
   alone : IsSole l.initial.pass.pass → l.tried ≡ 0;
   can_run : g.B.Body.can_run l.body l.store;
+  same_maps : (map capacity : ℕ) → g.B.Body.keys_full l.body map capacity → g.B.Body.keys_full l.initial.body map capacity;
   same_relation : (calls : _) (out : _) → g.B.Body.runs l.body calls out → g.B.Body.runs l.initial.body calls out;
 }

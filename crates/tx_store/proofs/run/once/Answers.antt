@@ -5,6 +5,7 @@ use Rattle.tx_store.specs.Known.{Vouches}
 use Rattle.tx_store.specs.Resolves.{parts_of}
 use Rattle.tx_store.specs.Runs.{IsAnswered}
 use Rattle.tx_store.specs.Stores.{StoreView}
+use Rattle.tx_store.proofs.Trying.{stopped_full, refused_full}
 use Rattle.tx_store.proofs.Running.{begins, ends_aborted, ends_committed, ends_refused, left, refused, stopped, at_store}
 use Rattle.tx_store.proofs.run.once.Goals as goal
 
@@ -55,3 +56,9 @@ returns-in-Err-body-clause-left_refused g c =
     let begun = begins c.args.store.now c.args.pass c.in-Ok.tx c.in-Ok.ensures.store c.in-Ok.ensures.pass c.in-Ok.ensures.version c.in-Ok.ensures.grows in
     let gone = c.abort.ensures in
     left c.args.store.now c.args.pass c.in-Ok.tx c.body.new.tx c.abort.result begun c.body.ensures.same (ends_aborted c.body.new.tx c.abort.result _ gone.of gone.keys gone.idle gone.seen gone.books gone.pass gone.grows gone.steps)
+
+pub returns-in-Err-commit-clause-full : goal.returns-in-Err-commit-clause-full
+returns-in-Err-commit-clause-full g c = rw c.after_refusal.ensures (refused_full (g.B.Body.keys_full c.args.body.now) c.in-Err-commit.refused.1)
+
+pub returns-in-Err-body-clause-full : goal.returns-in-Err-body-clause-full
+returns-in-Err-body-clause-full g c = rw c.after_stop.ensures (stopped_full (g.B.Body.keys_full c.args.body.now) c.in-Err-body.stop c.in-Err-body.ensures.full)

@@ -1,4 +1,5 @@
 use Rattle.std.proofs.Common.{◌∙◌, sym}
+use Rattle.tx_store.specs.Bodies.{NoMap}
 use Rattle.tx_store.specs.BodyFacts.{stops_nested}
 use Rattle.run_bodies.specs.RunStores.{work_of_run}
 use Rattle.run_bodies.proofs.Allowing.{appended_none, appended_nested}
@@ -16,4 +17,4 @@ returns-in-Ok-clause-appended g c = appended_nested (work_of_run c.args.self.now
 
 pub returns-in-Err-clause-stopped : goal.returns-in-Err-clause-stopped
 returns-in-Err-clause-stopped g c =
-    rw c.into.ensures (stops_nested 8 _ c.args.tx.now c.nested.new.tx c.nested.ensures.goes_on c.nested.ensures.grows c.in-Err.end c.in-Err.ensures.sole c.in-Err.ensures.err)
+    rw c.into.ensures (stops_nested {full = NoMap} 8 _ c.args.tx.now c.nested.new.tx c.nested.ensures.goes_on c.nested.ensures.grows c.in-Err.end c.in-Err.ensures.sole c.in-Err.ensures.err)

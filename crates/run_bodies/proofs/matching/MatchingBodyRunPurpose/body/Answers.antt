@@ -12,3 +12,6 @@ returns-in-Err-clause-same g c = c.in-Err.ensures.stopped.same
 
 pub returns-in-Err-clause-stopped : goal.returns-in-Err-clause-stopped
 returns-in-Err-clause-stopped g c = c.in-Err.ensures.stopped.cause
+
+pub returns-in-Err-clause-full : goal.returns-in-Err-clause-full
+returns-in-Err-clause-full g c = c.in-Err.ensures.stopped.full

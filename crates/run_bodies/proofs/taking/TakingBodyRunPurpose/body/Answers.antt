@@ -7,8 +7,8 @@ use Rattle.run_bodies.proofs.TakingEnds.{ends_taken}
 use Rattle.run_bodies.proofs.taking.TakingBodyRunPurpose.body.Goals as goal
 use Rattle.run_bodies.specs.Records.{HandsOn}
 use Rattle.run_bodies.specs.RunStores.{work_of_run}
-use Rattle.tx_store.specs.Bodies.{Does, of_nest}
-use Rattle.tx_store.specs.BodyFacts.{same_then, same_nested, stops_after, stops_nested, does_nested}
+use Rattle.tx_store.specs.Bodies.{NoMap, Does, of_nest}
+use Rattle.tx_store.specs.BodyFacts.{same_then, same_nested, stops_after, stops_nested, nested_full, does_nested}
 
 pub returns-in-Err-nested-clause-same : goal.returns-in-Err-nested-clause-same
 returns-in-Err-nested-clause-same g c =
@@ -17,8 +17,8 @@ returns-in-Err-nested-clause-same g c =
 pub returns-in-Err-nested-clause-stopped : goal.returns-in-Err-nested-clause-stopped
 returns-in-Err-nested-clause-stopped g c =
     let e = c.in-Err-nested.ensures in
-    let stops = stops_nested 8 _ c.take.new.tx c.nested.new.tx e.goes_on e.grows c.in-Err-nested.end e.sole e.err in
-    rw c.from.ensures (stops_after c.args.tx.now c.take.new.tx c.nested.new.tx (of_nest c.in-Err-nested.end) c.in-Ok.ensures.acts.same stops).cause
+    let stops = stops_nested {full = NoMap} 8 _ c.take.new.tx c.nested.new.tx e.goes_on e.grows c.in-Err-nested.end e.sole e.err in
+    rw c.from.ensures (stops_after {full = NoMap} c.args.tx.now c.take.new.tx c.nested.new.tx (of_nest c.in-Err-nested.end) c.in-Ok.ensures.acts.same stops).cause
 
 pub returns-clause-same : goal.returns-clause-same
 returns-clause-same g c =
@@ -35,3 +35,6 @@ returns-clause-ok g c =
     let e = c.in-Ok-nested.ensures in
     let child = does_nested (λ (added : List NamedDone). HandsOn (work_of_run p) i (by_key added)) b d (first.state ∙ c.requires.fresh.running) e.goes_on e.grows e.ok in
     ends_taken p a c.requires.fresh c.requires.can_run b d i (by_key child.0) first child.2 child.1
+
+pub returns-in-Err-nested-clause-full : goal.returns-in-Err-nested-clause-full
+returns-in-Err-nested-clause-full g c = rw c.from.ensures (nested_full NoMap c.in-Err-nested.end)
