@@ -2,4 +2,5 @@ pub mod Records
 pub mod Reading
 pub mod Steps
 pub mod Closing
+pub mod Refused
 pub mod MoveSteps

@@ -11,6 +11,8 @@ use Rattle.tx_core.specs.declared.stop.TxState.TheVariants.{Child}
 use Rattle.tx_nest.specs.Attempts.{StaysInChild, IsBodyStop}
 use Rattle.tx_store.specs.Calls.{in_child}
 use Rattle.tx_store.specs.Children.{view_of, HasMark, GrowsOn}
+use Rattle.tx_store.specs.declared.run.RunEnd.{RunEnd}
+use Rattle.tx_store.specs.declared.run.RunEnd.TheVariants as run_ends
 use Rattle.tx_store.specs.Runs.{IsSameAttempt, IsStopBetween}
 use Rattle.tx_store.specs.Stores.{StoreView, TxView}
 use Rattle.tx_stack.specs.declared.part.StackPart.{StackPart}
@@ -76,3 +78,10 @@ pub record IsCallAlone {A : Type 0} (p : StackPart) (act : A → Act) (Tells : �
   pub had : ℕ
   pub tells : Tells had answer
   pub are : calls ≡ cell_calls (record { part = p; had = had; child = false; act = act answer })
+
+-- no map, no queue and no log was full: each try was in vain, or memory was wanting
+abbrev pub IsSpentOrMemory : RunEnd → Type 0
+IsSpentOrMemory (run_ends.Spent tries last) = Unit {0}
+IsSpentOrMemory (run_ends.Full part values adding) = ⊥
+IsSpentOrMemory (run_ends.KeysFull map capacity) = ⊥
+IsSpentOrMemory run_ends.Memory = Unit {0}

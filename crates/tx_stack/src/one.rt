@@ -7,7 +7,7 @@ ghost use Rattle.tx_store.specs.Known.{Vouches};
 ghost use Rattle.tx_store.specs.Resolves.{parts_of};
 ghost use Rattle.tx_store.specs.Runs.{IsLeft, AfterFewer, IsAnswered, IsCommittedRun, IsRefusedRun, IsNotSpent};
 ghost use Rattle.tx_store.specs.Stores.{IsPassOfStore};
-ghost use Rattle.tx_stack.specs.Calls.{lawful_stacks, allowed_stacks, IsStackOf, IsCallAlone};
+ghost use Rattle.tx_stack.specs.Calls.{lawful_stacks, allowed_stacks, IsStackOf, IsCallAlone, IsSpentOrMemory};
 ghost use Rattle.tx_stack.specs.Stacks.{pushes, pops, IsPutOn, IsItemOf};
 
 use crate::part::StackPart;
@@ -57,7 +57,8 @@ impl Body<Stacks> for Pops {
 }
 
 impl StackPart {
-    /// A transaction of one [`push`](StackPart::push), tried so many times: it ends as `atomically` says.
+    /// A transaction of one [`push`](StackPart::push), tried so many times: it ends as `atomically` says, and no full map, queue
+    /// or log refuses it.
     pub fn push_one(
         &self,
         alloc: Global,
@@ -75,12 +76,21 @@ impl StackPart {
         ensures left { IfOk result (λ r. IsLeft store.now tries pass r.0) }
         ensures left_refused { IfErr result (λ r. IsLeft store.now tries pass r.0) }
         ensures sole { IsSole pass.pass → IfErr result (λ r. IsNotSpent r.1) }
+        ensures only { IfErr result (λ r. IsSpentOrMemory r.1) }
     {
         let mut pushes = Pushes { part: *self, value };
-        atomically(alloc, store, pass, &mut pushes, tries)
+        match atomically(alloc, store, pass, &mut pushes, tries) {
+            Ok(done) => Ok(done),
+            Err(refused) => {
+                let (back, end) = refused;
+                back.sights_law(store);
+                Err((back, end))
+            }
+        }
     }
 
-    /// A transaction of one [`pop`](StackPart::pop), tried so many times: it ends as `atomically` says.
+    /// A transaction of one [`pop`](StackPart::pop), tried so many times: it ends as `atomically` says, and no full map, queue
+    /// or log refuses it.
     pub fn pop_one(
         &self,
         alloc: Global,
@@ -97,8 +107,16 @@ impl StackPart {
         ensures left { IfOk result (λ r. IsLeft store.now tries pass r.0) }
         ensures left_refused { IfErr result (λ r. IsLeft store.now tries pass r.0) }
         ensures sole { IsSole pass.pass → IfErr result (λ r. IsNotSpent r.1) }
+        ensures only { IfErr result (λ r. IsSpentOrMemory r.1) }
     {
         let mut pops = Pops { part: *self };
-        atomically(alloc, store, pass, &mut pops, tries)
+        match atomically(alloc, store, pass, &mut pops, tries) {
+            Ok(done) => Ok(done),
+            Err(refused) => {
+                let (back, end) = refused;
+                back.sights_law(store);
+                Err((back, end))
+            }
+        }
     }
 }

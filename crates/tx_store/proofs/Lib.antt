@@ -8,6 +8,7 @@ pub mod LogCalls
 pub mod Pairing
 pub mod Parted
 pub mod Vouching
+pub mod Sighting
 pub mod QueueCalls
 pub mod MapCalls
 pub mod KeyPairing

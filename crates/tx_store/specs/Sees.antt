@@ -1,10 +1,11 @@
--- What an open attempt on a store sees.
-use Rattle.std.specs.Prelude.{List}
+-- What an open attempt on a store sees, and what a sight tells that a pass vouches for.
+use Rattle.std.specs.Prelude.{List, length}
 use Rattle.serial_terms.specs.declared.call.Done.{Done}
 use Rattle.serial_terms.specs.Entries.{Entry}
 use Rattle.serial_terms.specs.Histories.{Runs}
 use Rattle.serial_terms.specs.Renaming.{NamedDone, by_name, entries_with}
-use Rattle.serial_terms.specs.Serial.{State}
+use Rattle.serial_terms.specs.Serial.{State, IsWithinCapacity}
+use Rattle.serial_terms.specs.Sights.{Seen, EndsAs}
 use Rattle.store_history.specs.Histories.{IsOneHistory, IsLawfulAt}
 use Rattle.store_history.specs.Meanings.{IsLawful}
 use Rattle.store_layout.specs.States.{IsFormed, state_in}
@@ -23,3 +24,12 @@ module _ {P K : Type 0} (lawful_state : P → State → Type 0) where
     pub there : IsLawfulAt (lawful_state m.purpose) (state_in m.plan a.pass.view.opening) (entries_with by_name history) a.version state
     pub now : State
     pub run : Runs state (by_name a.notes) now
+
+  -- From a lawful state, in which nothing has more than its capacity, the calls run with these replies, to an end as the sight says
+  pub record SeesState (m : StoreMeaning P K) (seen : Seen NamedDone) : Type 0 where
+    pub state : State
+    pub lawful : lawful_state m.purpose state
+    pub within : IsWithinCapacity state
+    pub now : State
+    pub run : Runs state (by_name seen.dones) now
+    pub ends : EndsAs (length m.plan.queues) now seen.end

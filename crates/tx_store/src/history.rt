@@ -6,6 +6,7 @@ ghost use Rattle.serial_terms.specs.Sights.{Seen};
 ghost use Rattle.store_contents.specs.Closed.{books_by_key};
 ghost use Rattle.store_meaning.specs.declared.meaning.StoreMeaning.{StoreMeaning};
 ghost use Rattle.tx_store.specs.Known.{KnowsHistory, KnowsWholeHistory, Vouches, Extends};
+ghost use Rattle.tx_store.specs.Sees.{SeesState};
 ghost use Rattle.tx_store.specs.Stores.{PassView, IsPassOfStore};
 
 use crate::pass::StorePass;
@@ -31,6 +32,14 @@ impl<P: Purpose> StorePass<P> {
         ensures { KnowsWholeHistory P.lawful_state P.allowed store.now.table.meaning self.now.pass }
     {
         whole_history_law(&self.pass, store.table.meaning());
+    }
+
+    /// What the pass vouches for was seen of one moment: of a lawful state, in which nothing has more than its capacity.
+    pub fn sights_law(&self, _store: &Store<P>)
+        requires { IsPassOfStore _store.now self.now }
+        ensures { (seen : Seen NamedDone) → Vouches P.lawful_state _store.now.table.meaning self.now seen → SeesState P.lawful_state _store.now.table.meaning seen }
+    {
+        self.pass.one_moment_law();
     }
 
     /// The books of a pass are those of different callers, each with the records of its caller alone, in their order.
