@@ -1,6 +1,6 @@
 -- The limits of the numbers that are asked for.
 use Rattle.std.specs.Prelude.{ℕ, ◌≤◌, IfSome}
-use Rattle.command_words.specs.Words.{Asked, inspect, trial}
+use Rattle.command_words.specs.Words.{Asked, inspect, journal, trial}
 use Rattle.command_words.specs.declared.command.Settings.{Settings}
 use Rattle.command_words.specs.declared.options.Options.{Options}
 
@@ -26,5 +26,6 @@ pub record IsOptionsWithin (options : Options) : Type 0 where
 -- those of what is asked
 abbrev pub IsWithin : Asked → Type 0
 IsWithin (inspect names settings) = IsWithinLimits settings
+IsWithin (journal names settings) = IsWithinLimits settings
 IsWithin (trial workers seed frames) = AreWorkers workers
 IsWithin asked = Unit {0}

@@ -5,7 +5,7 @@ use Rattle.std.specs.Option.{option_map, option_map_or, unwrap_or}
 use Rattle.std.specs.Str.{bytes_eq}
 use Rattle.std.specs.Str.Parse.{digits_value}
 use Rattle.command_words.specs.declared.command.Command.{Command}
-use Rattle.command_words.specs.declared.command.Command.TheVariants.{Unknown, Inspect, Audit, Make, Trial}
+use Rattle.command_words.specs.declared.command.Command.TheVariants.{Unknown, Inspect, Journal, Audit, Make, Trial}
 use Rattle.command_words.specs.declared.command.FileNames.{FileNames}
 use Rattle.command_words.specs.declared.command.Settings.{Settings}
 use Rattle.command_words.specs.declared.options.Options.{Options}
@@ -19,11 +19,12 @@ abbrev pub names_of : FileNames → Names
 names_of names = record { rules = names.rules.now; capture = names.capture.now }
 
 -- what is asked of the program: nothing that it knows, to inspect the files of these names with these
--- settings, to judge the journal of this name, to generate a capture from a seed with so many frames, or
--- to try so many workers on one
+-- settings, to write the journal of such an inspection, to judge the journal of this name, to generate a
+-- capture from a seed with so many frames, or to try so many workers on one
 pub data Asked : Type 0 where
   unknown : Asked
   inspect : Names → Settings → Asked
+  journal : Names → Settings → Asked
   audit : List ℕ → Asked
   make : ℕ → ℕ → Asked
   trial : ℕ → ℕ → ℕ → Asked
@@ -31,7 +32,8 @@ pub data Asked : Type 0 where
 abbrev pub asked_of : Command → Asked
 asked_of Unknown = unknown
 asked_of (Inspect names settings) = inspect (names_of names) settings
-asked_of (Audit journal) = audit journal.now
+asked_of (Journal names settings) = journal (names_of names) settings
+asked_of (Audit name) = audit name.now
 asked_of (Make making) = make making.seed making.frames
 asked_of (Trial making workers) = trial workers making.seed making.frames
 
@@ -85,9 +87,14 @@ inspection_by options (word ∷ value ∷ other ∷ words) =
 abbrev pub no_options : Options
 no_options = record { window = None; findings = None; workers = None }
 
+-- the journal of an inspection, where one is asked for
+abbrev pub journal_by : Asked → Asked
+journal_by (inspect names settings) = journal names settings
+journal_by asked = unknown
+
 -- the audit of a journal: one name
 unfoldable pub audit_by : List (List ℕ) → Asked
-audit_by (journal ∷ []) = if is_name journal then audit journal else unknown
+audit_by (name ∷ []) = if is_name name then audit name else unknown
 audit_by words = unknown
 
 -- the seed and the number of frames that two words write, if numbers they are
@@ -111,6 +118,7 @@ trial_by words = unknown
 
 -- what the words behind the program's own name ask for, where they are one of these:
 --     inspect [--workers N] [--findings N] [--window N] RULES CAPTURE
+--     journal [--workers N] [--findings N] [--window N] RULES CAPTURE
 --     audit JOURNAL
 --     make SEED FRAMES
 --     trial [--workers N] SEED FRAMES
@@ -119,6 +127,7 @@ unfoldable pub asked_by : List (List ℕ) → Asked
 asked_by [] = unknown
 asked_by (command ∷ words) =
     if bytes_eq command (codes "inspect") then inspection_by no_options words
+    else if bytes_eq command (codes "journal") then journal_by (inspection_by no_options words)
     else if bytes_eq command (codes "audit") then audit_by words
     else if bytes_eq command (codes "make") then making_by make words
     else if bytes_eq command (codes "trial") then trial_by words

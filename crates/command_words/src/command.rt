@@ -1,11 +1,11 @@
 // The commands, and the words that they are written by.
 ghost use Rattle.std.specs.Prelude.{◌≡◌, [], ◌∷◌, map, string_bytes};
 ghost use Rattle.std.specs.Option.{option_map};
-ghost use Rattle.command_words.specs.Words.{is_name, inspection_of, inspection_by, settings_by, audit_by, make, trial, making_by, making_of, trial_by, asked_by, asked_of};
+ghost use Rattle.command_words.specs.Words.{is_name, inspection_of, inspection_by, settings_by, journal_by, audit_by, make, trial, making_by, making_of, trial_by, asked_by, asked_of};
 ghost use Rattle.command_words.specs.Limits.{AreWorkers, IsWithinLimits, IsOptionsWithin, IsWithin};
 
 use crate::making::Making;
-use crate::options::{MAX_WORKERS, Options, number_in};
+use crate::options::{MAX_WORKERS, NO_OPTIONS, Options, number_in};
 
 /// The most findings that an inspection has where the words don't say it.
 const USUAL_FINDINGS: u32 = 65_536;
@@ -44,6 +44,11 @@ pub enum Command<'a> {
     Unknown,
     /// Inspect a capture under rules, and write the report.
     Inspect {
+        names: FileNames<'a>,
+        settings: Settings,
+    },
+    /// Inspect a capture under rules, and write the journal of the workers' run.
+    Journal {
         names: FileNames<'a>,
         settings: Settings,
     },
@@ -111,6 +116,18 @@ fn inspection_by(options: Options, words: &[String]) -> Command<'_>
             }
         }
         [rules, capture] => inspection_of(options, rules.as_str(), capture.as_str()),
+        _ => Command::Unknown,
+    }
+}
+
+// The journal of an inspection, where one is asked for.
+fn journal_by(asked: Command<'_>) -> Command<'_>
+    requires { IsWithin (asked_of asked) }
+    ensures asked { asked_of result ≡ journal_by (asked_of asked.entry) }
+    ensures within { IsWithin (asked_of result) }
+{
+    match asked {
+        Command::Inspect { names, settings } => Command::Journal { names, settings },
         _ => Command::Unknown,
     }
 }
@@ -189,24 +206,18 @@ fn trial_by(words: &[String]) -> Command<'_>
 }
 
 /// What the words behind the program's own name ask for: `inspect [--workers N] [--findings N] [--window N]
-/// RULES CAPTURE`, `audit JOURNAL`, `make SEED FRAMES`, or `trial [--workers N] SEED FRAMES`, with names that
-/// aren't empty and don't begin with two dashes, and options in any order, each at most once. All other
-/// words are `Unknown`.
+/// RULES CAPTURE`, `journal` with the same words behind it, `audit JOURNAL`, `make SEED FRAMES`, or
+/// `trial [--workers N] SEED FRAMES`, with names that aren't empty and don't begin with two dashes, and
+/// options in any order, each at most once. All other words are `Unknown`.
 #[tactic(auto, unfolding(crate::specs::Words::asked_by))]
 pub fn command_of(words: &[String]) -> Command<'_>
     ensures asked { asked_of result ≡ asked_by (map (λ w. string_bytes w) words.now) }
     ensures within { IsWithin (asked_of result) }
 {
     match words {
-        [command, rest @ ..] if command.as_str() == "inspect" => {
-            inspection_by(
-                Options {
-                    window: None,
-                    findings: None,
-                    workers: None,
-                },
-                rest,
-            )
+        [command, rest @ ..] if command.as_str() == "inspect" => { inspection_by(NO_OPTIONS, rest) }
+        [command, rest @ ..] if command.as_str() == "journal" => {
+            journal_by(inspection_by(NO_OPTIONS, rest))
         }
         [command, rest @ ..] if command.as_str() == "audit" => audit_by(rest),
         [command, rest @ ..] if command.as_str() == "make" => make_by(rest),

@@ -26,6 +26,13 @@ pub struct Options {
     pub workers: Option<u32>,
 }
 
+/// No option.
+pub(crate) const NO_OPTIONS: Options = Options {
+    window: None,
+    findings: None,
+    workers: None,
+};
+
 // The number whose decimal digits the word is, if it is one below 2^64.
 fn written(word: &str) -> Option<u64>
     ensures number { IfSome result (λ number. (number < 2 ^ 64) × (word.now ≡ decimal number)) }

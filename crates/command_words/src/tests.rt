@@ -77,6 +77,42 @@ fn an_inspection_is_read_from_its_words(rt: HostRuntime) -> Result<(), Fail> {
 }
 
 #[test]
+fn a_journal_is_read_from_the_words_of_an_inspection(rt: HostRuntime) -> Result<(), Fail> {
+    let lists: [(&[&str], u32, u32, u32); 2] = [
+        (&["journal", "r", "-c"], 65_536, 30, 4),
+        (
+            &[
+                "journal",
+                "--window",
+                "31",
+                "--workers",
+                "2",
+                "--findings",
+                "3",
+                "r",
+                "-c",
+            ],
+            3,
+            31,
+            2,
+        ),
+    ];
+    for (words, findings, window, workers) in lists {
+        let words = list(rt.alloc(), words)?;
+        let Command::Journal { names, settings } = command_of(&words) else {
+            assert!(rt; false, "a journal");
+            return Ok(());
+        };
+        assert_eq!(rt; names.rules, "r");
+        assert_eq!(rt; names.capture, "-c");
+        assert_eq!(rt; settings.findings, findings);
+        assert_eq!(rt; settings.window, window);
+        assert_eq!(rt; settings.workers, workers);
+    }
+    Ok(())
+}
+
+#[test]
 fn a_window_is_a_number_of_seconds_and_given_once(rt: HostRuntime) -> Result<(), Fail> {
     for value in [
         "",
@@ -188,7 +224,7 @@ fn a_capture_to_make_or_to_try_is_read_from_its_words(rt: HostRuntime) -> Result
 
 #[test]
 fn other_words_are_unknown(rt: HostRuntime) -> Result<(), Fail> {
-    let lists: [&[&str]; 29] = [
+    let lists: [&[&str]; 31] = [
         &[],
         &["inspect"],
         &["inspect", "r"],
@@ -209,7 +245,9 @@ fn other_words_are_unknown(rt: HostRuntime) -> Result<(), Fail> {
         &["inspect", "r", "c", "--findings", "1"],
         &["inspect", "--workers=4", "r", "c"],
         &["Inspect", "r", "c"],
-        &["journal", "r", "c"],
+        &["journal", "r"],
+        &["journal", "--format", "2", "r", "c"],
+        &["Journal", "r", "c"],
         &["audit"],
         &["audit", ""],
         &["audit", "--j"],

@@ -71,3 +71,9 @@ module _ (Is : List ℕ → Type 0) (Stops : Cause → Type 0) where
     fault_line = (ending, is, ends, tells);
     nothing_out = λ nonzero other. nothing_cause run.out ending ends (λ zero. nonzero (is ∙ zero)) (λ three. other (is ∙ three));
   }
+
+-- a run that makes such texts makes texts of a wider kind
+pub ends_wider : (Is Wide : List ℕ → Type 0) (Stops : Cause → Type 0) (out : Writing) → ((text : List ℕ) → Is text → Wide text) → (ending : Ending) → EndsSo Is Stops out ending → EndsSo Wide Stops out ending
+ends_wider Is Wide Stops out wider finished ends = (ends.0, wider ends.0 ends.1, ends.2)
+ends_wider Is Wide Stops out wider (faulted unwritten) ends = (ends.0, wider ends.0 ends.1, ends.2, ends.3)
+ends_wider Is Wide Stops out wider (faulted cause) ends = ends

@@ -1,6 +1,7 @@
 pub mod Verdicts
 pub mod Planned
 pub mod Reported
+pub mod Journaled
 pub mod OneVerdict
 pub mod FewFindings
 pub mod Tried

@@ -48,9 +48,13 @@ decided_is (faulted cause) = inr refl
 abbrev pub IsFree : ℕ → Type 0
 IsFree status = (status ≡ 7) ⊎ (status ≡ 2)
 
--- how an inspection ends
+-- the two files have a report
+abbrev pub HasReport : Reading → Type 0
+HasReport of = (report : List ℕ) × ComesTo of (reports report)
+
+-- how an inspection ends, whatever it writes of a report
 abbrev pub Ends : Reading → Writing → Ending → Type 0
-Ends of out ending = EndsSo (λ text. ComesTo of (reports text)) (StopsAt of) out ending
+Ends of out ending = EndsSo (λ text. HasReport of) (StopsAt of) out ending
 
 module _ (of : Reading) (out : Writing) where
   -- why an ending of each status comes
@@ -97,8 +101,8 @@ module _ (one : VerdictIsOne) (some : SomeAnswerOf) (of : Reading) (out : Writin
 
     -- and so does an ending
     verdict_found : (ending : Ending) → Ends of out ending → IsFree (ending_status ending) ⊎ HasStatus of text bytes (decided ending)
-    verdict_found finished ends = inr (reports ends.0, refl, ends.1.verdict_is text told bytes told')
-    verdict_found (faulted unwritten) ends = inr (reports ends.0, refl, ends.1.verdict_is text told bytes told')
+    verdict_found finished ends = inr (reports ends.1.0, refl, ends.1.1.verdict_is text told bytes told')
+    verdict_found (faulted unwritten) ends = inr (reports ends.1.0, refl, ends.1.1.verdict_is text told bytes told')
     verdict_found (faulted cause) ends = stop_found cause ends.0
 
     -- so its status is that of the one verdict
@@ -142,7 +146,7 @@ module _ (one : VerdictIsOne) (some : SomeAnswerOf) (of : Reading) (out : Writin
           | inl (inl seven) ↦ inr (is ∙ seven)
           | inl (inr two) ↦ elim (read_cause of out ending ends two) [ inl failed ↦ absurd (rules_read failed) | inr failed ↦ absurd (capture_read failed.0) ]
           | inr found ↦ elim (decided_is ending) [
-            | inl other ↦ absurd (out_written (write_cause (λ text. ComesTo of (reports text)) (StopsAt of) out ending ends other.0).3)
+            | inl other ↦ absurd (out_written (write_cause (λ text. HasReport of) (StopsAt of) out ending ends other.0).3)
             | inr equal ↦ inl (is ∙ sym equal ∙ found)
           ]
         ]
@@ -174,8 +178,8 @@ module _ (one : VerdictIsOne) (some : SomeAnswerOf) (of : Reading) (out : Writin
     rules_by cause (inr why) = rules_by_capture cause why
 
     rules_by_ending : (ending : Ending) → Ends of out ending → IsOfRules text ⊎ IsFree (ending_status ending) ⊎ ((cause : Cause) × (ending_status ending ≡ status_of cause) × IsRuleFile of.rules.name text (rules_refused cause))
-    rules_by_ending finished ends = inl (ends.1.rules text told)
-    rules_by_ending (faulted unwritten) ends = inl (ends.1.rules text told)
+    rules_by_ending finished ends = inl (ends.1.1.rules text told)
+    rules_by_ending (faulted unwritten) ends = inl (ends.1.1.rules text told)
     rules_by_ending (faulted cause) ends =
         elim (rules_by cause ends.0) [
           | inl are ↦ inl are

@@ -25,11 +25,11 @@ use Rattle.report.specs.Fault.{many_findings}
 use Rattle.tdsl_tool.specs.Verdict.{max_file, IsAnswerOf, verdict_under, stops, reports, file_of, IsVerdictUnder}
 
 -- what the workers found is what the definition finds
-found_is : (settings : Settings) (rules : List Rule) (bytes : List ℕ) (it : Inspection) → IsInspection settings rules bytes it → it.outcome.findings.items ≡ findings_of_capture rules bytes settings.window (contents_of it.capture)
+pub found_is : (settings : Settings) (rules : List Rule) (bytes : List ℕ) (it : Inspection) → IsInspection settings rules bytes it → it.outcome.findings.items ≡ findings_of_capture rules bytes settings.window (contents_of it.capture)
 found_is settings rules bytes it is = is.findings.all ∙ ap (all_findings rules bytes) is.plan.tasks
 
 -- so their records are those of a run over the file
-pub history_is : (settings : Settings) (rules : List Rule) (bytes : List ℕ) (it : Inspection) → IsInspection settings rules bytes it → IsHistoryOf settings rules bytes (entries_of it.outcome.history.records)
+unfoldable pub history_is : (settings : Settings) (rules : List Rule) (bytes : List ℕ) (it : Inspection) → IsInspection settings rules bytes it → IsHistoryOf settings rules bytes (entries_of it.outcome.history.records)
 history_is settings rules bytes it is = record {
   capture = it.capture;
   says = is.says;
@@ -88,6 +88,10 @@ report_is settings rules name bytes it findings text short is found text_is =
           ∙ told_of (text_from rules) settings rules bytes it is)
           ∙ under_few settings rules bytes contents few;
     }
+
+-- so there is a report of it
+pub report_made : (settings : Settings) (rules : List Rule) (name bytes : List ℕ) (it : Inspection) → length bytes ≤ max_file → IsInspection settings rules bytes it → (report : List ℕ) × IsVerdictUnder settings rules name bytes (reports report)
+report_made settings rules name bytes it short is = (_, report_is settings rules name bytes it it.outcome.findings.items _ short is refl refl)
 
 -- more findings than a report may have
 pub too_many_is : (settings : Settings) (rules : List Rule) (name bytes : List ℕ) (capture : Capture) (plan : Plan) → length bytes ≤ max_file → IsAnswerOf bytes (captured (contents_of capture)) → IsPlan bytes capture settings.window plan

@@ -6,3 +6,4 @@ pub mod Audit
 pub mod Commands
 pub mod Making
 pub mod Handed
+pub mod Journals

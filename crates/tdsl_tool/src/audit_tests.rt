@@ -6,7 +6,7 @@ use std::test::Fail;
 use std::thread::Threads;
 
 // The run of one task.
-const JOURNAL: &str =
+pub(crate) const JOURNAL: &str =
     "journal 1\nopen 1 0 65536\nt 0 r 0 0: deq 0 -\nt 1 w 0 1: take 0 0; +enq 0 0\nt 2 w 0 2: deq 0 0; +appat 0 8 0\nt 2 r 0 3: deq 0 -\nt 2 r 0 4: take 0 -\nt 2 r 0 5: deq 0 -\nt 2 r 0 6: take 0 -\nend\n";
 
 // The same with an item that is none in its fourth line, and without its last line.
@@ -24,11 +24,11 @@ const HIGH_KEY: &str =
 const TAKEN_TWICE: &str =
     "journal 2\nopen 1 0 1\nt 1 w 0 0: take 0 0\ns 0 a 1 0: take 0 0\ns 1 a 1 0: take 0 0\nend\n";
 
-fn audited<R: Threads + Sync>(
+pub(crate) fn audited<R: Threads + Sync>(
     rt: &R,
     alloc: Global,
     words: &[&str],
-    journal: &str,
+    journal: &[u8],
     failing: u64,
 ) -> Result<Run, AllocError> {
     let mut list = Vec::new(alloc);
@@ -36,10 +36,7 @@ fn audited<R: Threads + Sync>(
         list.push(String::from_str(alloc, *word)?)?;
     }
     let mut entries = Vec::new(alloc);
-    entries.push((
-        String::from_str(alloc, "j")?,
-        journal.as_bytes().to_vec(alloc)?,
-    ))?;
+    entries.push((String::from_str(alloc, "j")?, journal.to_vec(alloc)?))?;
     let mut files = MemoryFiles::new(entries, Vec::new(alloc));
     let mut failing_calls = Vec::new(alloc);
     failing_calls.push(failing)?;
@@ -73,7 +70,7 @@ fn a_journal_is_judged(rt: HostRuntime) -> Result<(), Fail> {
         (&["audit", "j"], JOURNAL, 1, 3, "", "write fault\n"),
     ];
     for (words, journal, failing, status, out, faults) in cases {
-        let got = audited(&rt, rt.alloc(), words, journal, failing)?;
+        let got = audited(&rt, rt.alloc(), words, journal.as_bytes(), failing)?;
         assert_eq!(rt; got.status, status);
         assert_eq!(rt; got.out.as_slice(), out.as_bytes());
         assert_eq!(rt; got.faults.as_slice(), faults.as_bytes());

@@ -8,8 +8,10 @@ ghost use Rattle.rule_terms.specs.Rule.{Rule};
 ghost use Rattle.command_words.specs.Limits.{IsWithinLimits};
 ghost use Rattle.command_words.specs.declared.command.Settings as declared;
 ghost use Rattle.report.specs.Fault.{cause_of};
+ghost use Rattle.run_purpose.specs.Lawful.{IsSmall};
 ghost use Rattle.tdsl_tool.specs.Found.{IsInspection};
 ghost use Rattle.tdsl_tool.specs.Handed.{IsHistoryOf, records_of};
+ghost use Rattle.tdsl_tool.specs.Journals.{IsJournalOf};
 ghost use Rattle.tdsl_tool.specs.Run.{StopsUnder};
 ghost use Rattle.tdsl_tool.specs.Verdict.{IsAnswerOf, IsVerdictUnder, reports, max_file};
 
@@ -17,10 +19,12 @@ use crate::made::Made;
 use command_words::Settings;
 use inspect_workers::{Gate, InspectEnd, Outcome, inspect};
 use ipv4_fragments::{Plan, classify};
+use journal_writer::{Format, Sizes, journal_text};
 use pcap_frames::{Capture, CaptureEnd, frames};
 use pcapng_blocks::{BlocksEnd, blocks, is_pcapng};
 use report::{CaptureFault, Fault, report_text};
 use rule_matcher::Rules;
+use run_purpose::run_opens_lawful_law;
 use std::alloc::Global;
 use std::thread::Threads;
 
@@ -164,6 +168,48 @@ pub fn report_under<'a, Rt: Threads + Sync, G: Gate + Send + Drop>(
         it.outcome.incomplete,
         &it.outcome.findings,
     ) {
+        Ok(text) => Ok(it.told_by(text)),
+        Err(_) => Err(Fault::Memory),
+    }
+}
+
+// What the store of a run over a plan is opened with.
+fn sizes_of(plan: &Plan, findings: u32) -> Sizes
+    requires { IsSmall plan.now }
+    ensures { result ≡ record { tasks = length plan.now.tasks.items; groups = length plan.now.groups.items; findings = findings } }
+{
+    Sizes {
+        tasks: plan.tasks.len() as u32,
+        groups: plan.groups.len() as u32,
+        findings,
+    }
+}
+
+/// The journal of the workers that inspect a capture file under rules, with these settings and these gates,
+/// where the file has a report.
+pub fn journal_under<'a, Rt: Threads + Sync, G: Gate + Send + Drop>(
+    rt: &Rt,
+    alloc: Global,
+    rules: &Rules,
+    bytes: &[u8],
+    settings: Settings,
+    gates: Vec<G>,
+) -> Result<Made, Fault<'a>>
+    requires short { length bytes.now ≤ max_file }
+    requires limits { IsWithinLimits settings }
+    requires gates { settings.workers ≤ vec_len gates }
+    ensures report { IfOk result (λ made. (name : List ℕ) → (report : List ℕ) × IsVerdictUnder settings rules.now name bytes.now (reports report)) }
+    ensures journal { IfOk result (λ made. IsSomeAnd (records_of made) (λ records. IsJournalOf settings rules.now bytes.now records made.text.items)) }
+    ensures stops { IfErr result (λ fault. (name : List ℕ) → StopsUnder settings rules.now name bytes.now (cause_of fault)) }
+{
+    run_opens_lawful_law();
+    let it = match inspection_of(rt, alloc, rules, bytes, settings, gates) {
+        Ok(it) => it,
+        Err(fault) => return Err(fault),
+    };
+    let sizes = sizes_of(&it.plan, settings.findings);
+    let records = it.outcome.history.records();
+    match journal_text(alloc, sizes, records, &[], Format::Records) {
         Ok(text) => Ok(it.told_by(text)),
         Err(_) => Err(Fault::Memory),
     }

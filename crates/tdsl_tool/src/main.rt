@@ -1,7 +1,8 @@
 //! Inspects captures of packets: `inspect [--workers N] [--findings N] [--window N] RULES CAPTURE` writes a
-//! report of what the rules find. Judges journals: `audit JOURNAL` tells whether a legal run may have
-//! written it. Makes captures: `make SEED FRAMES` writes one that is generated from a seed, and
-//! `trial [--workers N] SEED FRAMES` inspects one and writes the summary.
+//! report of what the rules find, and `journal` with the same words every transaction of the workers. Judges
+//! journals: `audit JOURNAL` tells whether a legal run may have written it. Makes captures: `make SEED FRAMES`
+//! writes one that is generated from a seed, and `trial [--workers N] SEED FRAMES` inspects one and writes the
+//! summary.
 #![tactic(auto)]
 
 #[cfg(test)]
@@ -13,6 +14,8 @@ mod failing_tests;
 #[cfg(test)]
 mod hostile_tests;
 mod inspection;
+#[cfg(test)]
+mod journal_tests;
 mod laws;
 mod made;
 #[cfg(test)]

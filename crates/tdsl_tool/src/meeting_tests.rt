@@ -1,13 +1,16 @@
 // Two workers that wait for each other at their gates, which the work of one thread alone never comes through.
-use crate::run::run_with;
+use crate::audit_tests::audited;
+use crate::run::{Ended, run_with};
 use crate::tests::{GREET, HELLO, repeated, report};
 use byte_ends::{MemoryFiles, MemorySink};
 use inspect_workers::{Gate, Kind, Point};
 use serial_terms::{Call, Record, Reply};
 use std::alloc::{AllocError, Global};
+use std::process::Abort;
 use std::sync::Arc;
 use std::sync::atomic::{AtomicU64, Ordering};
 use std::test::Fail;
+use std::thread::Threads;
 
 // How often a gate looks before it gives up.
 const LOOKS: u64 = 50_000_000;
@@ -118,11 +121,20 @@ fn first_taken(records: &[Record], caller: u32) -> Option<usize> {
     })
 }
 
-#[test]
-fn each_of_two_workers_takes_a_task_while_the_other_is_held_up(
-    rt: HostRuntime,
-) -> Result<(), Fail> {
-    let alloc = rt.alloc();
+// What a run of two workers that meet left.
+#[derive(Drop)]
+struct Met {
+    signals: Arc<Signals, Global>,
+    ended: Ended,
+    out: MemorySink,
+}
+
+// A run for this command over two frames that each have a finding, by two workers that meet.
+fn run_by_two<R: Abort + Threads + Sync>(
+    rt: &R,
+    alloc: Global,
+    command: &str,
+) -> Result<Met, Fail> {
     let signals = new_signals(alloc)?;
     let mut gates = Vec::new(alloc);
     for worker in 0..16u32 {
@@ -133,7 +145,7 @@ fn each_of_two_workers_takes_a_task_while_the_other_is_held_up(
         })?;
     }
     let mut words = Vec::new(alloc);
-    for word in ["inspect", "--workers", "2", "r", "c"] {
+    for word in [command, "--workers", "2", "r", "c"] {
         words.push(String::from_str(alloc, word)?)?;
     }
     let mut entries = Vec::new(alloc);
@@ -142,23 +154,50 @@ fn each_of_two_workers_takes_a_task_while_the_other_is_held_up(
     let mut files = MemoryFiles::new(entries, Vec::new(alloc));
     let mut out = MemorySink::new(alloc, 1000, Vec::new(alloc))?;
     let mut faults = MemorySink::new(alloc, 1000, Vec::new(alloc))?;
-    assert!(rt; gates.len() >= 16);
-    let ended = run_with(&rt, alloc, &words, &mut files, &mut out, &mut faults, gates);
-    let want = report(
-        alloc,
-        [2, 0, 0, 0, 2, 0, 0, 0, 2, 0, 2],
-        "finding 0 greet 8\nfinding 1 greet 8\n",
-    )?;
-    assert_eq!(rt; ended.status, 0);
-    assert_eq!(rt; out.written(), want.as_slice());
-    assert_eq!(rt; signals.failures.load(Ordering::SeqCst), 0);
-    assert!(rt; signals.taken.load(Ordering::SeqCst) > 0);
-    let Some(history) = ended.history else {
-        assert!(rt; false, "a history");
-        return Ok(());
+    assert!(*rt; gates.len() >= 16);
+    let ended = run_with(rt, alloc, &words, &mut files, &mut out, &mut faults, gates);
+    Ok(Met {
+        signals,
+        ended,
+        out,
+    })
+}
+
+// Each worker took a task, worker 1 the first.
+fn both_took(rt: &impl Abort, met: &Met) {
+    assert_eq!(*rt; met.ended.status, 0);
+    assert_eq!(*rt; met.signals.failures.load(Ordering::SeqCst), 0);
+    assert!(*rt; met.signals.taken.load(Ordering::SeqCst) > 0);
+    let Some(history) = &met.ended.history else {
+        assert!(*rt; false, "a history");
+        return;
     };
     let first = first_taken(history.records(), 0);
     let second = first_taken(history.records(), 1);
-    assert!(rt; first.is_some() && second.is_some() && second < first);
+    assert!(*rt; first.is_some() && second.is_some() && second < first);
+}
+
+#[test]
+fn each_of_two_workers_takes_a_task_while_the_other_is_held_up(
+    rt: HostRuntime,
+) -> Result<(), Fail> {
+    let met = run_by_two(&rt, rt.alloc(), "inspect")?;
+    both_took(&rt, &met);
+    let want = report(
+        rt.alloc(),
+        [2, 0, 0, 0, 2, 0, 0, 0, 2, 0, 2],
+        "finding 0 greet 8\nfinding 1 greet 8\n",
+    )?;
+    assert_eq!(rt; met.out.written(), want.as_slice());
+    Ok(())
+}
+
+#[test]
+fn the_journal_of_two_workers_that_meet_is_legal(rt: HostRuntime) -> Result<(), Fail> {
+    let met = run_by_two(&rt, rt.alloc(), "journal")?;
+    both_took(&rt, &met);
+    let run = audited(&rt, rt.alloc(), &["audit", "j"], met.out.written(), 0)?;
+    assert_eq!(rt; run.status, 0);
+    assert!(rt; run.out.as_slice().ends_with(b" 0\n"));
     Ok(())
 }

@@ -2,17 +2,19 @@
 ghost use Rattle.std.specs.Prelude.{◌≡◌, ℕ, ◌≤◌, List, length, vec_len, IfOk, IfErr, IsSomeAnd, None};
 ghost use Rattle.byte_ends.specs.Told.{IfTold};
 ghost use Rattle.capture_generator.specs.Packets.{generated_capture};
+ghost use Rattle.command_words.specs.declared.command.Settings as declared;
 ghost use Rattle.command_words.specs.Limits.{AreWorkers, IsWithinLimits, IsWithin};
-ghost use Rattle.command_words.specs.Words.{names_of, inspect, asked_of};
+ghost use Rattle.command_words.specs.Words.{names_of, inspect, journal, asked_of};
 ghost use Rattle.report.specs.Fault.{cause_of, no_memory};
 ghost use Rattle.tdsl_tool.specs.Verdict.{reports, max_file, AreRules};
 ghost use Rattle.tdsl_tool.specs.Run.{folder, source, reading, ComesTo, StopsReading, StopsInRules, StopsAtRules, StopsAt};
 ghost use Rattle.tdsl_tool.specs.Audit.{IsAuditOf, StopsAtJournal};
+ghost use Rattle.tdsl_tool.specs.Journals.{IsJournalFor};
 ghost use Rattle.tdsl_tool.specs.Making.{IsSummary};
 ghost use Rattle.tdsl_tool.specs.Commands.{IsOutput, IsStop, IsAlone, HandsOut};
 ghost use Rattle.tdsl_tool.specs.Handed.{IsHistoryOfTrial, records_of, without_workers};
 
-use crate::inspection::{inspection_of, report_under};
+use crate::inspection::{inspection_of, journal_under, report_under};
 use crate::laws::one_verdict;
 use crate::made::Made;
 use byte_ends::{Files, ReadEnd, read_all};
@@ -78,6 +80,37 @@ fn rules_from<'a, F: Files>(alloc: Global, files: &mut F, name: &'a str) -> Resu
     rules_in(alloc, &text)
 }
 
+/// What the two files of an inspection give.
+#[derive(Drop)]
+struct Given {
+    rules: Rules,
+    bytes: Vec<u8>,
+}
+
+// What the files of these names give: rules that stand, and the bytes of the capture file behind them.
+fn given_by<'a, F: Files>(
+    alloc: Global,
+    files: &mut F,
+    names: FileNames<'a>,
+) -> Result<Given, Fault<'a>>
+    ensures rules { IfOk result (λ given. IfTold (F.content files.old names.entry.rules.now) (λ text. AreRules text given.rules)) }
+    ensures whole { IfOk result (λ given. IfTold (F.content files.old names.entry.capture.now) (λ file. given.bytes.items ≡ file)) }
+    ensures short { IfOk result (λ given. length given.bytes.items ≤ max_file) }
+    ensures stops { IfErr result (λ fault. (settings : declared.Settings) → StopsAt (reading (folder (F.content files.old) (F.faults files.old) (F.faults files.new)) (names_of names.entry) settings) (cause_of fault)) }
+    ensures content { (file : List ℕ) → F.content files.new file ≡ F.content files.old file }
+    ensures counts { (file : List ℕ) → F.faults files.old file ≤ F.faults files.new file }
+{
+    let rules = match rules_from(alloc, files, names.rules) {
+        Ok(rules) => rules,
+        Err(fault) => return Err(fault),
+    };
+    let bytes = match bytes_of(alloc, files, names.capture) {
+        Ok(bytes) => bytes,
+        Err(fault) => return Err(fault),
+    };
+    Ok(Given { rules, bytes })
+}
+
 // The report of an inspection.
 fn report_for<'a, Rt: Threads + Sync, F: Files, G: Gate + Send + Drop>(
     rt: &Rt,
@@ -95,15 +128,35 @@ fn report_for<'a, Rt: Threads + Sync, F: Files, G: Gate + Send + Drop>(
     ensures content { (file : List ℕ) → F.content files.new file ≡ F.content files.old file }
     ensures counts { (file : List ℕ) → F.faults files.old file ≤ F.faults files.new file }
 {
-    let rules = match rules_from(alloc, files, names.rules) {
-        Ok(rules) => rules,
+    let given = match given_by(alloc, files, names) {
+        Ok(given) => given,
         Err(fault) => return Err(fault),
     };
-    let bytes = match bytes_of(alloc, files, names.capture) {
-        Ok(bytes) => bytes,
+    report_under(rt, alloc, &given.rules, &given.bytes, settings, gates)
+}
+
+// The journal of an inspection.
+fn journal_for<'a, Rt: Threads + Sync, F: Files, G: Gate + Send + Drop>(
+    rt: &Rt,
+    alloc: Global,
+    files: &mut F,
+    names: FileNames<'a>,
+    settings: Settings,
+    gates: Vec<G>,
+) -> Result<Made, Fault<'a>>
+    requires limits { IsWithinLimits settings }
+    requires gates { 16 ≤ vec_len gates }
+    ensures journal { IfOk result (λ made. IsSomeAnd (records_of made) (λ records. IsJournalFor (reading (folder (F.content files.old) (F.faults files.old) (F.faults files.new)) (names_of names.entry) settings) records made.text.items)) }
+    ensures history { IfOk result (λ made. HandsOut (journal (names_of names.entry) settings) (folder (F.content files.old) (F.faults files.old) (F.faults files.new)) (records_of made)) }
+    ensures stops { IfErr result (λ fault. StopsAt (reading (folder (F.content files.old) (F.faults files.old) (F.faults files.new)) (names_of names.entry) settings) (cause_of fault)) }
+    ensures content { (file : List ℕ) → F.content files.new file ≡ F.content files.old file }
+    ensures counts { (file : List ℕ) → F.faults files.old file ≤ F.faults files.new file }
+{
+    let given = match given_by(alloc, files, names) {
+        Ok(given) => given,
         Err(fault) => return Err(fault),
     };
-    report_under(rt, alloc, &rules, &bytes, settings, gates)
+    journal_under(rt, alloc, &given.rules, &given.bytes, settings, gates)
 }
 
 // What is told of a journal.
@@ -215,7 +268,7 @@ pub fn output_of<'a, Rt: Threads + Sync, F: Files, G: Gate + Send + Drop>(
 ) -> Result<Made, Fault<'a>>
     requires limits { IsWithin (asked_of command) }
     requires gates { 16 ≤ vec_len gates }
-    ensures output { IfOk result (λ made. IsOutput (asked_of command.entry) (folder (F.content files.old) (F.faults files.old) (F.faults files.new)) made.text.items) }
+    ensures output { IfOk result (λ made. IsOutput (asked_of command.entry) (folder (F.content files.old) (F.faults files.old) (F.faults files.new)) (records_of made) made.text.items) }
     ensures history { IfOk result (λ made. HandsOut (asked_of command.entry) (folder (F.content files.old) (F.faults files.old) (F.faults files.new)) (records_of made)) }
     ensures stops { IfErr result (λ fault. IsStop (asked_of command.entry) (folder (F.content files.old) (F.faults files.old) (F.faults files.new)) (cause_of fault)) }
     ensures alone { IsAlone (asked_of command.entry) → (file : List ℕ) → F.faults files.new file ≡ F.faults files.old file }
@@ -226,6 +279,9 @@ pub fn output_of<'a, Rt: Threads + Sync, F: Files, G: Gate + Send + Drop>(
         Command::Unknown => Err(Fault::Usage),
         Command::Inspect { names, settings } => {
             report_for(rt, alloc, files, names, settings, gates)
+        }
+        Command::Journal { names, settings } => {
+            journal_for(rt, alloc, files, names, settings, gates)
         }
         Command::Audit { journal } => alone(answer_for(alloc, files, journal)),
         Command::Make(making) => alone(capture_for(alloc, making)),

@@ -81,7 +81,8 @@ fn finish<E: Sink>(faults: &mut E, ended: Result<(), Fault<'_>>) -> u8
 /// status that it ends with, and the history of its workers.
 ///
 /// `inspect [--workers N] [--findings N] [--window N] RULES CAPTURE` reads the two files and writes the
-/// report to `out`. The steps are taken in order: the words, the rule file, its text, the capture file, its
+/// report to `out`; `journal` with the same words writes the journal of its workers in its place, where there
+/// is a report. The steps are taken in order: the words, the rule file, its text, the capture file, its
 /// format, the findings, writing. `audit JOURNAL` reads the journal and writes how many records and sights
 /// it has, where it is legal; its steps are the words, the journal, its judgement, writing. `make SEED
 /// FRAMES` writes a capture that is generated from the seed, and `trial [--workers N] SEED FRAMES` the

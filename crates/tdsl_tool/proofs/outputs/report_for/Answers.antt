@@ -1,24 +1,15 @@
-use Rattle.std.proofs.Common.{refl, ◌∙◌, inr, arith}
+use Rattle.std.proofs.Common.{◌∙◌, inr}
 use Rattle.std.proofs.lemmas.Result.{IfOk-weaker, IfErr-weaker}
 use Rattle.command_words.specs.Words.{names_of}
 use Rattle.report.specs.Fault.{cause_of}
 use Rattle.tdsl_tool.specs.Handed.{records_of}
-use Rattle.tdsl_tool.specs.Run.{folder, source, reading}
+use Rattle.tdsl_tool.specs.Run.{folder, reading}
 use Rattle.tdsl_tool.specs.Verdict.{reports}
-use Rattle.tdsl_tool.proofs.Verdicts.{comes_to_of, hands_out, stops_unread, stops_at}
+use Rattle.tdsl_tool.proofs.Verdicts.{comes_to_of, hands_out, stops_at}
 use Rattle.tdsl_tool.proofs.outputs.report_for.Goals as goal
 
-pub returns-in-Err-bytes_of-clause-stops : goal.returns-in-Err-bytes_of-clause-stops
-returns-in-Err-bytes_of-clause-stops g c =
-    let content = g.F.Files.content in
-    let faults = g.F.Files.faults in
-    let capture = c.args.names.capture.now in
-    inr (stops_unread
-    (reading (folder (content c.args.files.now) (faults c.args.files.now) (faults c.bytes_of.new.files)) (names_of c.args.names) c.args.settings)
-    c.in-Ok.rules c.in-Ok.ensures.rules
-    (source (folder (content c.rules_from.new.files) (faults c.rules_from.new.files) (faults c.bytes_of.new.files)) capture)
-    refl (c.rules_from.ensures.content capture) (λ failed. omega (arith, c.rules_from.ensures.counts capture, failed))
-    (cause_of c.in-Err-bytes_of.fault) c.in-Err-bytes_of.ensures.stops)
+pub returns-in-Err-clause-stops : goal.returns-in-Err-clause-stops
+returns-in-Err-clause-stops g c = c.in-Err.ensures.stops c.args.settings
 
 pub returns-clause-report : goal.returns-clause-report
 returns-clause-report g c =
@@ -27,9 +18,9 @@ returns-clause-report g c =
     let capture = c.args.names.capture.now in
     IfOk-weaker c.report_under.result _ _
     (λ made under. comes_to_of
-    (reading (folder (content c.args.files.now) (faults c.args.files.now) (faults c.bytes_of.new.files)) (names_of c.args.names) c.args.settings)
-    c.in-Ok.rules c.in-Ok.ensures.rules c.deref.result.now
-    (λ bytes told. c.deref.ensures.value ∙ c.in-Ok-bytes_of.ensures.whole bytes (c.rules_from.ensures.content capture ∙ told))
+    (reading (folder (content c.args.files.now) (faults c.args.files.now) (faults c.given_by.new.files)) (names_of c.args.names) c.args.settings)
+    c.in-Ok.given.rules c.in-Ok.ensures.rules c.deref.result.now
+    (λ bytes told. c.deref.ensures.value ∙ c.in-Ok.ensures.whole bytes told)
     (reports made.text.items) (under capture))
     c.report_under.ensures.report
 
@@ -39,9 +30,9 @@ returns-clause-history g c =
     let faults = g.F.Files.faults in
     IfOk-weaker c.report_under.result _ _
     (λ made is. hands_out
-    (reading (folder (content c.args.files.now) (faults c.args.files.now) (faults c.bytes_of.new.files)) (names_of c.args.names) c.args.settings)
-    c.in-Ok.rules c.in-Ok.ensures.rules c.deref.result.now
-    (λ bytes told. c.deref.ensures.value ∙ c.in-Ok-bytes_of.ensures.whole bytes (c.rules_from.ensures.content c.args.names.capture.now ∙ told))
+    (reading (folder (content c.args.files.now) (faults c.args.files.now) (faults c.given_by.new.files)) (names_of c.args.names) c.args.settings)
+    c.in-Ok.given.rules c.in-Ok.ensures.rules c.deref.result.now
+    (λ bytes told. c.deref.ensures.value ∙ c.in-Ok.ensures.whole bytes told)
     (records_of made) is)
     c.report_under.ensures.history
 
@@ -52,8 +43,8 @@ returns-clause-stops g c =
     let capture = c.args.names.capture.now in
     IfErr-weaker c.report_under.result _ _
     (λ fault under. inr (stops_at
-    (reading (folder (content c.args.files.now) (faults c.args.files.now) (faults c.bytes_of.new.files)) (names_of c.args.names) c.args.settings)
-    c.in-Ok.rules c.in-Ok.ensures.rules c.deref.result.now
-    (λ bytes told. c.deref.ensures.value ∙ c.in-Ok-bytes_of.ensures.whole bytes (c.rules_from.ensures.content capture ∙ told))
+    (reading (folder (content c.args.files.now) (faults c.args.files.now) (faults c.given_by.new.files)) (names_of c.args.names) c.args.settings)
+    c.in-Ok.given.rules c.in-Ok.ensures.rules c.deref.result.now
+    (λ bytes told. c.deref.ensures.value ∙ c.in-Ok.ensures.whole bytes told)
     (cause_of fault) (under capture)))
     c.report_under.ensures.stops
