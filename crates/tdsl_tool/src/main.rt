@@ -8,6 +8,8 @@
 #[cfg(test)]
 mod audit_tests;
 #[cfg(test)]
+mod batch_tests;
+#[cfg(test)]
 mod blocks_tests;
 #[cfg(test)]
 mod failing_tests;
